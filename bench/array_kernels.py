@@ -1,4 +1,4 @@
-"""What crates/bench_kernels does with typed arrays, by Python's `array` on the same bytes, with the same words (`measuring.py`)."""
+"""Does by Python's `array` what crates/bench_kernels does with typed arrays, on the same bytes and with the same words (`measuring.py`)."""
 import pathlib
 import sys
 from array import array

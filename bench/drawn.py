@@ -1,7 +1,7 @@
-"""Lines of all words, drawn at random, for which the program and the plain loop have the same replies.
+"""Lines with all kinds of words, drawn at random, to which the program and the plain loop reply the same.
 
-`tools/compare.py` draws them and knows the replies of the program; where the loop's is another, as at each
-difference from Python, the line is left out, and both go on as if it had never been.
+`tools/compare.py` draws them and knows the replies of the program. If the loop's reply is another one, as at each
+difference from Python, the line is left out, and both go on as if it had never been there.
 """
 import pathlib
 import re
@@ -14,12 +14,12 @@ sys.path[:0] = [str(HERE), str(HERE.parent / "tools")]
 import compare
 import loop
 
-# Lines of one drawing: few, since it mostly begins anew at each line that is left out.
+# How many lines one drawing has. They are few, since it mostly begins anew at each line that is left out.
 LINES = 60
 
 
 def beside(kept):
-    """The objects of the loop after these lines: a call that gives its reply to one line more."""
+    """A call that gives the loop's reply to one more line, behind these lines."""
     fed = []
     replies = loop.replies(iter(fed.pop, None))
 
@@ -33,7 +33,7 @@ def beside(kept):
 
 
 def drawing(seed):
-    """So many drawn lines, and how many handles they give."""
+    """So many drawn lines, and how many handles they make."""
     drawn, kept, reply = compare.Drawn(seed), [], beside([])
     while len(kept) < LINES:
         line = drawn.line()
@@ -47,12 +47,12 @@ def drawing(seed):
 
 
 def lines(limit):
-    """The lines of one drawing after another, of at most so many bytes, with handles that go on."""
+    """The lines of one drawing after another. They have at most so many bytes, and their handles go on from drawing to drawing."""
     given, size, seed = 0, 0, 1
     while True:
         kept, handles = drawing(seed)
         seed += 1
-        # a line that was left out may have changed what the loop's objects are, where it was refused
+        # a line that was left out may have changed the loop's objects even if it was refused
         if compare.Ours().run(kept) != [*loop.replies(kept)]:
             continue
         for line in kept:

@@ -1,7 +1,7 @@
-"""What crates/bench_kernels does, by Python's own calls on the same bytes, with the same words (`measuring.py`).
+"""Does by Python's own calls what crates/bench_kernels does, on the same bytes and with the same words (`measuring.py`).
 
-The kernel `copy` copies so many bytes from one place to another, and nothing else. A kernel behind `numpy-` is what
-numpy does of it, and `numpy-names` alone prints which there are.
+The kernel `copy` copies so many bytes from one place to another, and does nothing else. A kernel behind `numpy-` is done
+by numpy, and the word `numpy-names` prints which of these there are.
 """
 import ctypes
 import pathlib
@@ -33,7 +33,7 @@ def drawn_text(plan):
 
 
 def mark_of_parts(parts):
-    """The number of parts and the check sum of all, with a bar behind each."""
+    """The number of parts, and the check sum of all of them with a bar behind each."""
     return (len(parts) << 32) + zlib.adler32(b"".join([part + b"|" for part in parts]))
 
 
@@ -128,17 +128,17 @@ def set_itself(plan):
     return assigned(object, view, slice(None, None, -1), view)
 
 
-# rows along which items lie apart, or backwards: no slice of a memoryview makes them, but one of an array of Python's
-# own tests does
+# Rows in which items lie apart or backwards. No slice of a memoryview makes them, but a slice of an array from Python's
+# own tests does.
 
 CODES = {"B": 1, "H": 2, "i": 4, "q": 8}
 ROW, STEPPED_ROW = 256, 520
-# for each order how many items a row has, and which of them are taken
+# for each order: how many items a row has, and which of them are taken
 ORDERS = {"stepped": (STEPPED_ROW, slice(0, 2 * ROW, 2)), "reversed": (ROW, slice(None, None, -1))}
 
 
 def rows_kernel(order, code, doing):
-    """What is done with rows of numbers, which lie behind as much room as is asked for."""
+    """A kernel on rows of numbers, which lie behind as much room as is asked for."""
     width, taken = ORDERS[order]
 
     def kernel(plan):
@@ -159,7 +159,7 @@ def kernels_of_rows(doing):
 
 
 def by_code(name, kernel):
-    """A kernel on bytes, and on numbers of more bytes each."""
+    """A kernel on bytes, and the same on numbers that have more bytes each."""
     return {name: kernel("B"), **{f"{name}-{code}": kernel(code) for code in "Hiq"}}
 
 
@@ -287,7 +287,7 @@ COMMANDS = 10_000
 
 
 def queue_drawn(plan):
-    """Drawn commands on a queue: what they reply, and the bytes after each."""
+    """Drawn commands on a queue, with their replies and the bytes after each."""
     bytes_drawn = drawn(plan, 4 * COMMANDS)
 
     def carry_out(object, live, kind, byte, count, rare):
@@ -371,7 +371,7 @@ def compare_reversed(plan):
 
 
 def narrow_and_wide(plan):
-    """Drawn numbers of two bytes, and the same of four."""
+    """Drawn numbers of two bytes each, and the same numbers of four bytes each."""
     narrow, wide = bytearray(drawn(plan, plan.size // 2)), bytearray(plan.size)
     wide[::4], wide[1::4] = narrow[::2], narrow[1::2]
     return narrow, wide
@@ -467,7 +467,7 @@ KERNELS = {
     "casts": casts,
     "get-B": lambda plan: got(plan, "B", 1),
     "get-i": lambda plan: got(plan, "i", 4),
-    # no view of Python's reads or writes such items, so `struct` does
+    # Python's views can't read or write such items, so `struct` does
     "get-record": lambda plan: unpacked(plan, False),
     "set-B": lambda plan: put(plan, "B", 1, 251),
     "set-i": lambda plan: put(plan, "i", 4, 1_000_003),
@@ -486,7 +486,7 @@ KERNELS = {
     "append-pop": append_pop,
     "queue-long": queue(100_000),
     "queue-short": queue(10),
-    # ten thousand commands, however many there are of others
+    # ten thousand commands, whatever the number for other kernels is
     "queue-drawn": queue_drawn,
     "compare": compare,
     "compare-beside": compare_beside,
@@ -514,7 +514,7 @@ KERNELS = {
 }
 
 
-# what numpy does of the same, where it is installed: `tobytes` of its arrays, their assignments and their copies
+# the same by numpy, if it is installed: `tobytes` of its arrays, their assignments and their copies
 
 
 def numpy_kernels():

@@ -1,6 +1,6 @@
-"""A plain loop that carries out lines of commands on Python's own objects, to measure beside.
+"""A plain loop that carries out lines of commands on Python's own objects. The program is measured beside it.
 
-It carries out one line after the other, and keeps neither lines nor replies, as the program keeps no list of them.
+It carries out one line after the other. It keeps neither lines nor replies, since the program keeps no list of them either.
 """
 import operator
 import re
@@ -45,18 +45,18 @@ def other_value(word, objects):
 
 
 def as_bytes(found):
-    """What a method gives, with bytes in place of a bytearray."""
+    """The result of a method, with bytes in place of a bytearray."""
     if type(found) is bytearray:
         return bytes(found)
     return [bytes(part) for part in found] if type(found) in (list, tuple) else found
 
 
 class Others:
-    """The commands that are no line of the loop's own, each by its word, with the values behind its subject."""
+    """The commands that have no line of their own in the loop. Each is found by its word, and gets the values behind its subject."""
 
     def __init__(self, objects):
         self.objects = objects
-        # the handle of what views are made of, by its identity
+        # the handle of each object that views are made of, by the object's identity
         self.owners = {}
 
     def named(self, *made):
@@ -155,7 +155,7 @@ def replies(lines):
             elif word == "next":
                 yield repr(next(subject))
             elif word == "iter":
-                # called so, CPython 3.11 looks at the refusal of a released view
+                # if it is called in this way, CPython 3.11 notices the refusal of a released view
                 found = operator.call(iter, subject)
                 if found is not subject:
                     objects.append(found)

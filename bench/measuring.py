@@ -1,8 +1,8 @@
 """What the scripts of kernels share: drawn bytes, check sums, how a kernel is measured, and the words of a run.
 
-The words are a kernel, or `all`; how often it is called; the bytes of a kernel over bytes; the items of a
-kernel over items; the seed of the bytes; and `time`, where the time is to be told. For each kernel its name and
-a check sum are printed, and with `time` the nanoseconds of processor time that all calls took.
+The words are a kernel or `all`, how often it is called, the bytes of a kernel over bytes, the items of a
+kernel over items, the seed of the bytes, and `time` if the time is wanted. For each kernel its name and a
+check sum are printed, and with `time` the nanoseconds of processor time that all calls took.
 """
 import itertools
 import operator
@@ -15,7 +15,7 @@ MASK = 2**64 - 1
 
 
 def drawn(plan, size):
-    """So many drawn bytes, by the shifts of Marsaglia's xorshift."""
+    """So many drawn bytes, made by the shifts of Marsaglia's xorshift."""
     state = plan.seed * 0x9E3779B97F4A7C15 & MASK | 1
     numbers = []
     for _ in range(size // 8):
@@ -27,17 +27,17 @@ def drawn(plan, size):
 
 
 def mark_of_bytes(made):
-    """The length and Adler's check sum."""
+    """The length of bytes, and Adler's check sum of them."""
     return (len(made) << 32) + zlib.adler32(made)
 
 
 def mark_of_numbers(numbers):
-    """The first once, the second twice, and so on."""
+    """The sum of numbers, where the first counts once, the second twice, and so on."""
     return sum(map(operator.mul, numbers, itertools.count(1)))
 
 
 def count_of(item):
-    """What an item counts: a number itself, a record each of its values, as often as its place says."""
+    """What an item counts. A number counts itself, and a record counts each of its values as often as the value's place says."""
     if isinstance(item, int):
         return item
     return mark_of_numbers([value if isinstance(value, int) else sum(value) for value in item])
@@ -48,13 +48,13 @@ def as_number(answer):
 
 
 class Kernel:
-    """What is called, how the last answer is marked, and what the calls write to, or how that is marked."""
+    """A kernel: what is called, how its last answer is marked, and what the calls write to or how that is marked."""
 
     def __init__(self, call, mark, written=None):
         self.call, self.mark, self.written = call, mark, written
 
     def measure(self, calls):
-        """The check sum, and the nanoseconds of processor time of so many calls after a first."""
+        """The check sum, and the nanoseconds of processor time that so many calls take after a first one."""
         call = self.call
         answer = call()
         start = time.process_time_ns()
@@ -82,7 +82,7 @@ class Plan:
 
 
 def run(kernels, others={}):
-    """Measures the kernel that the words name; all are those of the first table."""
+    """Measures the kernel that the words name. `all` stands for the kernels of the first table."""
     name, calls, size, count, seed = sys.argv[1], *map(int, sys.argv[2:6])
     plan = Plan(size, count, seed)
     for each, kernel in {**kernels, **others}.items():

@@ -1,6 +1,7 @@
-"""What crates/bench_kernels does with views in several dimensions, by Python's memoryviews of the same bytes, with the same words (`measuring.py`).
+"""Does by Python's memoryviews what crates/bench_kernels does with views in several dimensions, on the same bytes and with the same words
+(`measuring.py`).
 
-No call of a memoryview makes such views, but an array of Python's own tests takes any strides.
+No call of a memoryview makes such views, but an array from Python's own tests takes any strides.
 """
 import pathlib
 import sys

@@ -1,4 +1,4 @@
-"""What crates/bench_kernels does with tables of records, by Python's `struct` on the same bytes, with the same words (`measuring.py`)."""
+"""Does by Python's `struct` what crates/bench_kernels does with tables of records, on the same bytes and with the same words (`measuring.py`)."""
 import pathlib
 import struct
 import sys
@@ -9,7 +9,7 @@ import measuring
 from measuring import Kernel, as_number, count_of, drawn
 
 RECORD = struct.Struct("<4sHHII")
-# below this number are one in a hundred of a field of two bytes
+# one in a hundred values of a field of two bytes is below this number
 LIMIT = 656
 
 

@@ -1,8 +1,8 @@
-"""What `bench/threads` measures beside the program: threads over a bytearray with a lock.
+"""Threads over a bytearray with a lock, which `bench/threads` measures beside the program.
 
     bench/threads.py one|each THREADS ROUNDS
 
-A round is a read, a write and an `append`, each with the lock held. The number of them all is printed.
+A round is a read, a write and an `append`, each with the lock held. The number of all rounds is printed.
 """
 import sys
 import threading

@@ -2,9 +2,9 @@
 """Makes crates/pybuf_c/out/libpybuf_c.a by `rt lib`, over the libraries that `rt ci` left.
 
 `rt ci` proves each library and leaves it in its crate's out/, but without the note by which `rt lib` knows that it is built from
-these files, so `rt lib` alone would prove them all again. This writes the notes of those that are there, and computes each crate's
-once: `rt` computes it for every path. It rests on the kit's rtlib; the proofs rest on `rt ci` alone. With a kit whose rtlib has
-other names, a plain `rt lib` proves the libraries once more.
+these files, so `rt lib` alone would prove them all again. This script writes the notes of the libraries that are there.
+It computes the note of each crate once, where `rt` computes it for every path. The script rests on the kit's rtlib, but the proofs rest
+on `rt ci` alone. If the kit's rtlib has other names, a plain `rt lib` proves the libraries once more.
 """
 import os
 import pathlib

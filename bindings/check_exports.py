@@ -1,5 +1,5 @@
 #!/usr/bin/env python3
-"""Writes the declarations in C of the exports of pybuf_c, and refuses a bindings/c/exports.h that has others.
+"""Compares bindings/c/exports.h with the exports of pybuf_c, declared in C, and refuses a file with other declarations.
 
     check_exports.py            compares
     check_exports.py --write    writes bindings/c/exports.h anew
@@ -38,7 +38,7 @@ def parameters(text):
         if not part:
             continue
         name, kind = (word.strip() for word in part.split(':', 1))
-        if kind == 'Global':  # it takes no bytes, and C passes nothing
+        if kind == 'Global':  # this argument takes no bytes, and C passes nothing for it
             continue
         if kind in SLICES:
             found += [SLICES[kind] + name, f'size_t {name}_length']

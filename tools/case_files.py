@@ -1,9 +1,9 @@
-"""Puts files of cases in place: those that a script makes, and none else in their folders."""
+"""Writes the files of cases that a script makes, and removes all other files from their folders."""
 import sys
 
 
 def content(made):
-    """The bytes of what was made, a text or bytes."""
+    """The bytes of a file that was made as a text or as bytes."""
     return made.encode() if isinstance(made, str) else made
 
 

@@ -1,12 +1,12 @@
 #!/usr/bin/env python3
-"""Compares the C ABI with what is stored of it, and ends with status 1 where they differ.
+"""Compares the C ABI with the stored one, and ends with status 1 if they differ.
 
     tools/check_abi.py [LIBRARY]          compares the header, and a shared library's symbols and name
     tools/check_abi.py --write            writes bindings/c/abi.txt anew
     tools/check_abi.py --symbols          prints the linker's list of what the shared library exports
 
-What is stored is `bindings/c/abi.txt`: a line for each function, constant and structure of `include/pybuf.h`. Within a major version a
-line may be added, and none may change or go: --write refuses that, and says which line it is. A program that was built with an older header then
+The stored ABI is `bindings/c/abi.txt`. It has a line for each function, constant and structure of `include/pybuf.h`. Within a major version a
+line may be added, but no line may change or go. `--write` refuses such a change, and names the line. So a program that was built with an older header then
 runs with the newer library.
 """
 import pathlib
@@ -51,7 +51,7 @@ def functions(lines):
 
 
 def changed(old, new):
-    """What went or changed within a major version."""
+    """The lines that went or changed within a major version."""
     same = next((line for line in old if line.startswith("soname ")), None) in new
     return [line for line in old if line not in new] if same else []
 

@@ -1,26 +1,26 @@
-"""Compares what the documents show with what is run as a test, and ends with status 1 where they differ.
+"""Compares what the documents show with what is run as a test, and ends with status 1 if they differ.
 
 - A block of Rust or of definitions has to stand word for word in a source of `crates/`.
 - A block of C, `rs` or Python has to be a file of `bindings/`.
-- A block of changes has to begin with the name of a file, in which its lines before or after the change stand. One that
-  only takes lines out has to find them there, unless the changes of the document were made.
+- A block of changes has to begin with the name of a file. This file has to have the lines before or after the change. A
+  block that only takes lines out has to find them there, unless the changes of the document were made.
 - A must-fail edit that a document shows has to lie in a folder `must-fail/`, or to turn a line that a block of changes of
   that document puts in.
 - An input of the program has to be an example of `examples/`, with the output that the document shows.
-- A session that stands beside Python has to be an example, with these replies, and Python, run here, has to give what the
-  replies say.
+- A session that stands beside Python has to be an example with these replies. Python is run here, and has to give what
+  the replies say.
 - Lines that stand with their replies have to be a part of an example. Code that stands in four languages has to stand in files that are
   tested.
 - Each example has to be named in `examples/README.md`.
 - A picture has to be what `tools/draw_pictures.py` draws from the replies of its examples.
-- A line in a table of `docs/reference/commands.md` has to stand in an example, with the reply of the table. A value in its table of
-  values has to stand in the input of one, and a reply in its table of replies in the output of one.
+- A line in a table of `docs/reference/commands.md` has to stand in an example, with the reply of the table. A value in its
+  table of values has to stand in the input of an example. A reply in its table of replies has to stand in the output of one.
 - A file or a folder that a document names has to be there, and so has a case or a test that `docs/reference/differences.md` names.
-- A link to a heading has to name one.
+- A link to a heading has to name a heading that is there.
 - `docs/reference/api` has to be what `tools/write_reference.py` writes, and every public item has to have a doc comment.
 - A page of `docs/` says in its first line for whom it is, and has at most 400 lines. All pages that people write have at most
   30,000 words, and README at most 900.
-- What `tools/page_blocks.py` says of the blocks of code: each is run, or compared with a tested file, or says why not.
+- Each block of code has to be run, or compared with a tested file, or say why not. `tools/page_blocks.py` checks this.
 """
 
 import pathlib
@@ -36,11 +36,12 @@ import write_reference
 
 ROOT = pathlib.Path(__file__).resolve().parent.parent
 TOP = [ROOT / "README.md", ROOT / "CONTRIBUTING.md", ROOT / "CHANGELOG.md", ROOT / "examples/README.md"]
-# The name of a crate, as a pattern.
+# A pattern for the name of a crate.
 CRATE = r"(?:pybuf|test|golden|bench|example)_\w+"
 API = ROOT / "docs/reference/api"
 DOCUMENTS = TOP + sorted(path for path in (ROOT / "docs").glob("**/*.md") if API not in path.parents)
-# How many lines a page may have, how many words README, and how many all pages that people write, but the list of changes.
+# How many lines a page may have, how many words README may have, and how many words all pages may have that people write,
+# except for the list of changes.
 LINES, FIRST_WORDS, WORDS = 400, 900, 30_000
 # The head of a session that is shown beside Python.
 BESIDE_PYTHON = "| Line | Reply | In Python |"
@@ -79,20 +80,20 @@ def sources(ending):
 
 
 def change_of(block):
-    """A block of changes, whose lines begin with a blank, a minus or a plus: its file, and its lines before and after."""
+    """The file of a block of changes, and its lines before and after. Each line of the block begins with a blank, a minus or a plus."""
     before = [part[1:] for part in block[1:] if part[:1] in (" ", "-")]
     after = [part[1:] for part in block[1:] if part[:1] in (" ", "+")]
     return ROOT / block[0].removeprefix("--- "), before, after
 
 
 def holds(path, form):
-    """Whether the lines stand in a file one after the other; no lines don't."""
+    """Whether the lines stand in a file one after the other. If there are no lines, they don't."""
     source = path.read_text().split("\n")
     return bool(form) and any(source[at : at + len(form)] == form for at in range(len(source)))
 
 
 def check_changes(document, blocks):
-    """Blocks of changes with the numbers of their lines: each stands in its file as before or as after the change."""
+    """Checks that each block of changes stands in its file as before or as after the change. The blocks have their line numbers."""
     changes = [(line, *change_of(block)) for line, block in blocks]
     for line, path, _, _ in changes:
         if not path.exists():
@@ -105,7 +106,7 @@ def check_changes(document, blocks):
 
 
 def check_blocks(document, lines, kept):
-    """Blocks between fences, whose language is said behind the first fence."""
+    """Checks the blocks between fences. The language of a block stands behind its first fence."""
     start, changes = None, []
     for number, line in enumerate(lines, 1):
         if not line.startswith("```"):
@@ -131,7 +132,7 @@ def check_blocks(document, lines, kept):
 
 
 def check_edits(document, lines):
-    """Must-fail edits that are shown whole: indented blocks that begin with a file."""
+    """Checks must-fail edits that are shown whole. These are indented blocks that begin with a file."""
     edits = [path.read_text() for path in sorted((ROOT / "crates").glob("*/must-fail/*.edit"))]
     put = [line[1:].strip() for line in lines if line.startswith("+")]
     for block in plain_blocks(lines):
@@ -142,7 +143,7 @@ def check_edits(document, lines):
 
 
 def outputs():
-    """Of each example its input, a character a byte, and its output."""
+    """The input and the output of each example. Each character of the input stands for a byte."""
     found = []
     for path in sorted((ROOT / "examples").glob("*.stdout")):
         found.append((path.with_suffix("").read_bytes().decode("latin-1"), path.read_text()))
@@ -167,7 +168,7 @@ def shown_behind(lines, at):
 
 
 def check_inputs(document, lines, examples):
-    """Inputs that a document pipes into the program, writes into a file, or takes from an example."""
+    """Checks inputs that a document pipes into the program, writes into a file, or takes from an example."""
     for at, line in enumerate(lines):
         tried = re.fullmatch(r" {4}\$ (?:cd crates/pybuf_program && )?rt try < \.\./\.\./examples/(\S+)", line)
         if tried is not None:
@@ -209,7 +210,7 @@ def in_python(statement, names):
 
 
 def check_beside_python(document, lines, examples):
-    """A session that stands beside Python. What Python has no statement for is said in words."""
+    """Checks a session that stands beside Python. If Python has no statement for a line, words stand in its place."""
     given, written, names = "", "", {}
     for number, cells in rows(lines, BESIDE_PYTHON):
         line, reply = (quoted(cell)[0] for cell in cells[:2])
@@ -226,7 +227,7 @@ def check_beside_python(document, lines, examples):
 
 
 def check_shown(document, lines, examples):
-    """Sessions that stand with their replies: each is a run of lines of an example."""
+    """Checks that each session with replies is a run of lines of an example."""
     runs = [list(zip(given.split("\n"), written.split("\n"))) for given, written in examples]
     for start, line in enumerate(lines):
         if line.startswith(SHOWN):
@@ -236,7 +237,7 @@ def check_shown(document, lines, examples):
 
 
 def check_tasks(document, lines):
-    """The code of tasks in four languages: each piece stands in a line of a file that is tested."""
+    """Checks that the code of tasks in four languages stands in files that are tested."""
     for number, cells in rows(lines, TASKS):
         for cell, pattern in zip(cells[1:], TESTED):
             for code in quoted(cell):
@@ -245,7 +246,7 @@ def check_tasks(document, lines):
 
 
 def check_examples(document, lines):
-    """Every example is named."""
+    """Checks that every example is named."""
     named = {name for line in lines for name in quoted(line)}
     for path in sorted((ROOT / "examples").glob("*.stdout")):
         if path.stem not in named:
@@ -253,7 +254,7 @@ def check_examples(document, lines):
 
 
 def check_pictures():
-    """Every picture is there, as it is drawn from what is stored of its examples."""
+    """Checks that every picture is there, and is as the stored replies of its examples draw it."""
     drawn = {draw_pictures.FOLDER / name: text for name, text in draw_pictures.pictures(draw_pictures.stored).items()}
     for path in sorted({*drawn, *(ROOT / "docs").glob("**/*.svg")}):
         if not path.exists() or drawn.get(path) != path.read_text():
@@ -273,7 +274,7 @@ def plain_blocks(lines):
 
 
 def rows(lines, head):
-    """The rows of the table whose head begins so, with their numbers of line."""
+    """The rows of the table whose head begins in this way, with their line numbers."""
     start = next((at for at, line in enumerate(lines) if line.startswith(head)), None)
     if start is None:
         return
@@ -329,12 +330,12 @@ def check_tables(document, lines, examples):
 
 
 def words_in(text):
-    """How many words a text has: what stands between blanks and has a letter or a digit, code and tables too."""
+    """How many words a text has. A word stands between blanks and has a letter or a digit. Code and tables count too."""
     return sum(1 for word in text.split() if re.search(r"\w", word))
 
 
 def check_size(document, lines):
-    """How long a page is, and that its first line says for whom it is."""
+    """Checks how long a page is, and that its first line says for whom it is."""
     if document == ROOT / "README.md" and words_in("\n".join(lines)) > FIRST_WORDS:
         report(document, 1, f"it has {words_in(chr(10).join(lines))} words, and may have {FIRST_WORDS}")
     if ROOT / "docs" not in document.parents:
@@ -346,14 +347,14 @@ def check_size(document, lines):
 
 
 def check_words():
-    """How many words all pages have."""
+    """Checks how many words all pages have."""
     count = sum(words_in(path.read_text()) for path in DOCUMENTS if path.name != "CHANGELOG.md" and path.exists())
     if count > WORDS:
         faults.append(f"all pages have {count} words, and may have {WORDS}")
 
 
 def check_reference():
-    """The generated reference is what the script writes, and every public item has a doc comment."""
+    """Checks that the generated reference is what the script writes, and that every public item has a doc comment."""
     written = {API / name: text for name, text in write_reference.pages().items()}
     for path in sorted({*written, *API.glob("*")}):
         if not path.exists() or written.get(path) != path.read_text():
@@ -400,7 +401,7 @@ def check_differences(document, lines):
 
 
 def check_names(document, lines):
-    """Files and folders that are named between backquotes."""
+    """Checks files and folders that are named between backquotes."""
     tops = ("crates/", "docs/", "examples/", "cases/", "tools/", "bench/", ".ci/")
     made = page_blocks.written(lines).values() if document.parent.name == "learn" else ()
     for number, line in enumerate(lines, 1):
@@ -414,7 +415,7 @@ def check_names(document, lines):
 
 
 def check_links(document, lines):
-    """Files and headings that are linked."""
+    """Checks files and headings that are linked."""
     inside = False
     for number, line in enumerate(lines, 1):
         inside = inside != line.startswith("```")

@@ -1,14 +1,15 @@
 #!/usr/bin/env python3
-"""Lists the public items of the library that have no doc comment, or none with a line of example. `./test items` calls this.
+"""Lists the public items of the library that have no doc comment, or a doc comment without a line of example. `./test items` calls this.
 
     python3 tools/check_items.py            all library crates
     python3 tools/check_items.py CRATE..    these crates
 
 An item is what a user can reach, as `tools/write_reference.py` finds it: each function, type, trait, constant and law that a crate
-exports, each method of such a type or trait, and each variant of such an enum. What a crate hands on of another crate is that crate's.
+exports, each method of such a type or trait, and each variant of such an enum. An item that a crate re-exports belongs to the crate
+that it comes from.
 An example is a line of the doc comment that begins with `Example`.
 
-The status is 1 where an item is listed, 2 where a word names no crate, else 0.
+The status is 1 if an item is listed, 2 if a word names no crate, and else 0.
 """
 import re
 import sys

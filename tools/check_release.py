@@ -1,14 +1,14 @@
 #!/usr/bin/env python3
 """Makes a release twice, installs from it into empty folders, and builds and runs programs against that alone.
 
-    python3 tools/check_release.py               with what .ci/run built
+    python3 tools/check_release.py               uses what .ci/run built
     python3 tools/check_release.py --stand-in    with a stand-in for it, where nothing is proved: what needs an answer of the real library
                                                  is skipped
 
-The three first programs are those of docs/tasks/install.md, with the commands and outputs that stand there. Each program gets the paths
-of the installed folder, a home that has nothing else, and no path of the repository. Then everything is tried that `tools/install`,
-`tools/uninstall` and `tools/release` have to refuse: each in one line, with nothing half done. What needs a program that isn't here is
-skipped, and the reason said. The last line counts.
+The first three programs are those of docs/tasks/install.md, with the commands and outputs that stand there. Each program gets the paths
+of the installed folder and a home that has nothing else. It gets no path of the repository. Then everything is tried that `tools/install`,
+`tools/uninstall` and `tools/release` have to refuse. Each refusal is one line, and leaves nothing half done. A check that needs a program
+that isn't here is skipped, and the reason is said. The last line counts the checks.
 """
 import gzip
 import hashlib
@@ -39,7 +39,7 @@ passed, faults, skips = [], [], []
 
 
 def check(name, holds, told=""):
-    """Counts a check; of one that fails the name is printed with what is told."""
+    """Counts a check. If it fails, its name is printed, with what is told of it."""
     if holds:
         passed.append(name)
     else:
@@ -53,7 +53,7 @@ def skip(name, reason):
 
 
 def lacks(name, *programs):
-    """Whether a program is missing; then the check is skipped."""
+    """Whether a program is missing. If so, the check is skipped."""
     missing = next((it for it in programs if shutil.which(it) is None), None)
     if missing:
         skip(name, f"there is no {missing}")
@@ -110,7 +110,7 @@ def unpack(path, folder):
 
 
 def check_texts():
-    """What needs no release: the version, the ABI, the man pages, completion and counts."""
+    """Checks what needs no release: the version, the ABI, the man pages, completion and counts."""
     ran = subprocess.run([sys.executable, ROOT / "tools/version.py", "--check"], capture_output=True, text=True)
     check("every place has the version", ran.returncode == 0, ran.stderr)
     ran = subprocess.run([sys.executable, ROOT / "tools/check_abi.py"], capture_output=True, text=True)
@@ -140,7 +140,7 @@ def check_texts():
 
 
 def check_counts():
-    """The counts of the page on security."""
+    """Checks the counts on the page about security."""
     text = SECURITY.read_text()
     tests = sum(it.read_text().count("#[test]") for it in ROOT.glob("crates/*/src/**/*.rt"))
     counts = {
@@ -156,7 +156,7 @@ def check_counts():
 
 
 def check_gates():
-    """Which trees count as proved."""
+    """Checks which trees count as proved."""
     kept = tree.GATE
     with tempfile.TemporaryDirectory() as room:
         tree.GATE = pathlib.Path(room, "gate.txt")
@@ -177,7 +177,7 @@ def made(room, way, folder, top=ROOT):
 
 
 def check_archives(room, way):
-    """Two releases, which have to be the same; gives the first one."""
+    """Makes two releases, which have to be the same, and gives the first one."""
     one, two = room.folder / "one", room.folder / "two"
     for folder in (one, two):
         ran = made(room, way, folder)
@@ -213,7 +213,7 @@ def check_archives(room, way):
 
 
 def check_source(room, one, way):
-    """A release from the unpacked source archive is the same, where it isn't the gate that makes the difference."""
+    """Checks that a release from the unpacked source archive is the same, unless only the gate makes a difference."""
     source = unpack(next(one.glob("*-source*.tar.gz")), room.fresh("source"))
     three = room.folder / "three"
     if way[0] == "--stand-in":
@@ -234,7 +234,7 @@ def installed(room, name, *words):
 
 
 def refused(room, name, words, told, prefix=None):
-    """A call that has to be refused in one line which has these words, with the folder as it was."""
+    """Makes a call that has to be refused. The refusal is one line with these words, and the folder stays as it was."""
     before = snapshot(prefix) if prefix and prefix.is_dir() else None
     ran = room.run(*words)
     after = snapshot(prefix) if prefix and prefix.is_dir() else None
@@ -243,7 +243,8 @@ def refused(room, name, words, told, prefix=None):
 
 
 def page_script(heading):
-    """What a reader of a section does: a script that writes its blocks into files and runs its commands, and what has to be printed by each."""
+    """A script that does what a reader of a section does: it writes the section's blocks into files, and runs its commands. With it
+    comes what each command has to print."""
     section = PAGE.read_text().split(f"\n## {heading}\n")[1].split("\n## ")[0]
     script, wanted, file, block = "", [], "", None
     for line in section.split("\n"):
@@ -315,7 +316,7 @@ def check_python(room, prefix, name, **variables):
 
 
 def check_pip(room, archive, **variables):
-    """pip installs an archive of the package with no network."""
+    """Lets pip install an archive of the package without a network."""
     name = f"pip installs {archive.name}"
     if subprocess.run([sys.executable, "-m", "pip", "--version"], capture_output=True).returncode:
         skip(name, "there is no pip")
@@ -343,7 +344,7 @@ def check_languages(room, prefix, real):
 
 
 def check_page_install(room, one):
-    """The first section of the page, in a folder where the archive lies: it unpacks and installs into the home."""
+    """Follows the first section of the page, in a folder where the archive lies. The section unpacks it and installs it into the home."""
     folder = room.fresh("page")
     archive = next(one.glob("*-linux-gnu*.tar.gz"))
     shutil.copy(archive, folder / f"{re.sub('-(stand-in|unproved)', '', archive.name)}")
@@ -357,7 +358,7 @@ def check_page_install(room, one):
 
 
 def check_other_archives(room, one, install):
-    """Each of the other archives is installed by itself."""
+    """Installs each of the other archives by itself."""
     wheel, crate, sdist = next(one.glob("*.whl")), one / f"pybuf-{NUMBER}.crate", one / f"pybuf-{NUMBER}.tar.gz"
     library = unpack(next(one.glob("*-linux-gnu*.tar.gz")), room.fresh("library")) / f"lib/libpybuf.so.{NUMBER}"
     prefix = installed(room, "from-wheel", install, wheel)
@@ -376,7 +377,7 @@ def check_other_archives(room, one, install):
 
 
 def check_bad_archives(room, one, top, install):
-    """Archives that aren't whole, or are no archive of pybuf."""
+    """Tries archives that aren't whole, or that aren't archives of pybuf."""
     none = room.folder / "none"
     archive = next(one.glob("*-linux-gnu*.tar.gz"))
     for path in (archive, next(one.glob("*.whl")), one / f"pybuf-{NUMBER}.crate"):
@@ -408,7 +409,7 @@ def check_bad_archives(room, one, top, install):
 
 
 def check_stopped(room, install, prefix):
-    """An install that is stopped, sooner and later, has done everything or nothing."""
+    """Checks that an install which is stopped, sooner or later, has done everything or nothing."""
     for number in range(6):
         copy = room.folder / f"stopped-{number}"
         shutil.copytree(prefix, copy, symlinks=True)
@@ -424,7 +425,7 @@ def check_stopped(room, install, prefix):
 
 
 def check_bad_folders(room, install, uninstall):
-    """Folders that can't be written, that have files of others, or another version."""
+    """Tries folders that can't be written, that have the files of others, or that have another version."""
     file = room.folder / "file"
     file.write_text("")
     refused(room, "a folder below a file is refused", [install, file / "pybuf"], "can't be made or written: nothing was installed", file)

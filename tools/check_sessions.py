@@ -1,18 +1,18 @@
 #!/usr/bin/env python3
-"""Looks whether what `share` writes is what one thread gets that carries out the same commands in the same order.
+"""Checks whether `share` writes what a single thread gets that carries out the same commands in the same order.
 
     python3 tools/check_sessions.py [--program PROGRAM] [--count N] [--seed N] [--runs N] [FILE..]
 
 PROGRAM is what the gate built, `crates/pybuf_program/out/pybuf_program`, where none is named. The FILEs are inputs of `share`; where none is
 named, so many are drawn, 300 of them, of up to 16 sessions and 400 lines, and each is run twice.
 
-It knows nothing but commands and their names. Of what `share` writes it looks whether
+It knows nothing but commands and their names. It checks that, in what `share` writes,
 - each line of a session stands there once, in that session's order, with `mK` and `iK` put as the K-th view and iterator that
   the session was given before, or `none`;
 - `run` gives the same reply to each command, where its exporter is `h0`, its views and iterators are the handles that they get
   there, and what wasn't given is a handle that nothing has; of what a copy was made of it asks the bytes;
 - there are as many commands as `calls` says, and the bytes at the end are those that `run` has.
-The order between sessions is open, so it is taken as it is written.
+The order between sessions is open, so the order that was written is taken.
 """
 
 import argparse
@@ -51,7 +51,7 @@ def given(numbers, count, letter):
 
 
 class Session:
-    """What a session has still to ask, and the numbers of the views and iterators that it was given."""
+    """A session: what it still has to ask, and the numbers of the views and iterators that it was given."""
 
     def __init__(self):
         self.script, self.asked, self.views, self.iterators = [], 0, [], []
@@ -141,7 +141,7 @@ def sessions_of(lines):
 
 
 def fault_of(program, lines, written, whole=True):
-    """What is wrong with what was written for the lines, or None. Where it isn't whole, the last lines may lack."""
+    """What is wrong with what was written for the lines, or None. If it needn't be whole, its last lines may be missing."""
     sessions, replay = sessions_of(lines[1:]), Replay(lines[0])
     ended = any(line.startswith(b"calls ") for line in written[-2:])
     if whole and (len(written) < 2 or not ended):
@@ -176,7 +176,7 @@ def fault_of(program, lines, written, whole=True):
 
 
 def check(program, lines):
-    """Runs the lines by `share`, and tells what is wrong, or None."""
+    """Runs the lines by `share`, and says what is wrong, or None."""
     try:
         written, fault = run(program, "share", lines)
         return fault or fault_of(program, lines, written)
@@ -185,7 +185,7 @@ def check(program, lines):
 
 
 class Drawn:
-    """Lines of sessions, drawn."""
+    """Draws lines of sessions."""
 
     KINDS = [b"bytearray"] * 6 + [b"bytes", b"vector", b"rovector"]
     # all methods, by how many arguments they take
@@ -316,7 +316,7 @@ class Drawn:
         return b"".join(map(self.word, tokens(pattern)))
 
     def command(self, pattern):
-        """A command, once in twenty times of any subject, whether it has it or not."""
+        """A command. One in twenty is asked of any subject, whether the subject has this command or not."""
         words = pattern.split(b" ")
         if self.draw.random() < 0.05:
             words[1] = b"ANY"
@@ -331,8 +331,8 @@ class Drawn:
         return [first] + [b"%d %s" % (draw.randrange(sessions), self.command(pattern)) for pattern in patterns]
 
     def script(self):
-        """The lines of one session of 200: some that make no view, then all kinds, and again such behind the release of its views.
-        So most sessions add bytes and take some out while nobody has a view."""
+        """The 200 lines of one session. Some make no view, then come lines of all kinds, and behind the release of its views come
+        lines that make none again. So most sessions add bytes and take some out while nobody has a view."""
         commands = [(command, weight) for (_, command), weight in zip(self.COMMANDS, self.weights)]
         others = [(command, weight) for command, weight in commands if not command.startswith(self.VIEWS)]
         drawn = lambda some, count: self.draw.choices(*zip(*some), k=count)
@@ -341,7 +341,7 @@ class Drawn:
 
 
 def drawn(count, seed, most_sessions=SESSIONS, most_lines=LINES):
-    """So many inputs."""
+    """So many drawn inputs."""
     draw = random.Random(seed)
     return [Drawn(draw).lines(most_sessions, most_lines) for _ in range(count)]
 

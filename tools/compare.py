@@ -4,8 +4,8 @@
     python3 tools/compare.py FOLDER [SEED [COUNT]]
     cd crates/pybuf_program && rt try --cases FOLDER
 
-The replies are those of Python's own objects, but for the differences that `docs/reference/differences.md`
-names, each of which `Ours` has in one place. Nothing of this is a part of the tests.
+The replies are those of Python's own objects, except for the differences that `docs/reference/differences.md`
+names. `Ours` has each of these in one place. None of this is a part of the tests.
 """
 import operator
 import pathlib
@@ -24,7 +24,7 @@ BYTE_CODES = ("b", "B", "c")
 CODECS = ("utf-8", "utf8", "ascii")
 EDITS = "append extend iadd insert pop remove clear reverse imul init copy".split()
 ITERATING = "iter next hint setstate".split()
-# What each method reads its arguments as; those behind the bar may be left out.
+# What each method reads its arguments as. Those behind the bar may be left out.
 ARGUMENTS = {
     **dict.fromkeys("isalnum isalpha isascii isdigit islower isspace istitle isupper lower upper swapcase capitalize title".split(), ""),
     **dict.fromkeys("find rfind index rindex count".split(), "needle | bound bound"),
@@ -58,7 +58,7 @@ class ReadOnlyVector(bytes):
 
 
 class Ours(AsWritten):
-    """Python's objects with our replies where we differ by choice."""
+    """Python's objects, with our replies wherever we differ by choice."""
 
     def __init__(self):
         super().__init__()
@@ -66,7 +66,7 @@ class Ours(AsWritten):
         self.strides = {}
         # the handles of vectors
         self.vectors = set()
-        # the handle of what each iterator goes over, by the iterator's handle, and those that are exhausted
+        # the handle of what each iterator goes over, by the iterator's handle, and the iterators that are exhausted
         self.iterators = {}
         self.exhausted = set()
 
@@ -78,7 +78,7 @@ class Ours(AsWritten):
         return super().reply(line)
 
     def is_unknown(self, words):
-        """A subject or a property of another kind."""
+        """Whether a command is unknown, since its subject or its property is of another kind."""
         if words[0] == "new":
             return False
         handle = int(words[1][1:])
@@ -113,7 +113,7 @@ class Ours(AsWritten):
         return made
 
     def content(self, *options):
-        """The bytes that something new is made of."""
+        """The bytes that something new is made from."""
         source, encoding, errors = (*options, *[ABSENT] * (3 - len(options)))
         if not all(it is ABSENT or isinstance(it, str) for it in (encoding, errors)):
             raise TypeError("no text")
@@ -146,7 +146,7 @@ class Ours(AsWritten):
         return any(at == handle and view not in self.released for view, at in self.exporters.items())
 
     def resizable(self, handle):
-        """What asks for another length is refused here, after its values were looked at."""
+        """Refuses what asks for another length, after its values were checked."""
         if self.is_live(handle):
             raise BufferError("a view is unreleased")
 
@@ -224,7 +224,7 @@ class Ours(AsWritten):
         return super().do_del(handle, subject, key)
 
     def set_slice(self, handle, subject, key, value):
-        """A slice of a bytearray: the same number of bytes is written also while a view is unreleased."""
+        """Sets a slice of a bytearray. If the number of bytes stays the same, they are written even while a view is unreleased."""
         places = range(*key.indices(len(subject)))
         content = self.read(value)
         if len(content) != len(places):
@@ -259,7 +259,7 @@ class Ours(AsWritten):
         return self.view_made(subject.toreadonly(), handle, self.strides[handle])
 
     def do_bytes(self, handle, subject, *order):
-        """A released view is refused before its order is looked at."""
+        """A released view is refused before its order is checked."""
         if isinstance(subject, memoryview):
             subject.nbytes
         return super().do_bytes(handle, subject, *order)
@@ -286,7 +286,7 @@ class Ours(AsWritten):
         return Reply(f"{exporter} {self.view_made(made, number, row_major(subject))}")
 
     def check_key(self, subject, key):
-        """What is looked at of the key of a view before anything else."""
+        """Checks the key of a view before anything else."""
         if not subject.shape and key is not ... and key != ():
             raise TypeError("no key of a view without dimensions")
         numbers = key if isinstance(key, tuple) else (key,)
@@ -330,7 +330,7 @@ class Ours(AsWritten):
             raise TypeError("no value of the format")
 
     def assign(self, subject, key, source):
-        """A slice of a view is assigned, by the bytes of the source as they were before."""
+        """Assigns to a slice of a view the bytes of the source, as they were before."""
         if len(subject.shape) != 1:
             raise NotImplementedError("several dimensions")
         target = subject[key]
@@ -381,7 +381,7 @@ class Ours(AsWritten):
     def do_iter(self, handle, subject):
         if handle in self.iterators:
             return super().do_iter(handle, subject)
-        # of several dimensions Python has no iterator; the items of this one are never asked for
+        # Python has no iterator over a view of several dimensions; the items of this one are never asked for
         is_line = handle not in self.exporters or len(subject.shape) == 1
         made = super().do_iter(handle, subject if is_line else b"")
         self.iterators[int(made[1:])] = handle
@@ -419,10 +419,10 @@ class Ours(AsWritten):
         if method == "hex":
             return self.digits(content, *found)
         if method == "maketrans":
-            # the last of repeated bytes counts, which was the first
+            # of repeated bytes the last one counts here, and it was the first one
             return bytes.maketrans(*(part[::-1] for part in found))
         if method == "expandtabs":
-            # no size that has room is too great, and one below 0 is as 0
+            # a size that there is room for is never too great, and a size below 0 counts as 0
             found = [max(0, size) for size in found if b"\t" in content]
         if method == "decode":
             encoding, errors = (*found, *[None] * (2 - len(found)))
@@ -432,7 +432,7 @@ class Ours(AsWritten):
 
     def has_affix(self, content, method, affix, *bounds):
         bounds = self.read_as(method, (b"", *bounds))[1:]
-        # not even no bytes stand where the start passes the end, and no affix is looked at there
+        # if the start passes the end, not even an empty needle is found, and no affix is read
         if not content.startswith(b"", *bounds):
             return False
         return any(getattr(content, method)(self.read(it), *bounds) for it in (affix if isinstance(affix, tuple) else (affix,)))
@@ -576,15 +576,15 @@ def column_major(view):
 
 
 NUMBERS = [sign * it + more for it in (0, 1, 2**7, 2**8, 2**15, 2**16, 2**31, 2**32, 2**63, 2**64, 2**126) for sign in (1, -1) for more in (-1, 0, 1)]
-# texts to which no view is cast; `u`, which is a code here alone, isn't drawn
+# Texts that no view is cast to. `u` isn't drawn, since it is a code only here.
 FORMATS = ["4s", "2H", "BH", "<Bb2x", "4p", "xH", "<u", "2c", "8x", "0s", "0H", "3", "@", "@@B", "B@", "d", "@d", "f", "e", "P", "s", "p", "x", "<n", "y", "B2", "=B", "99999999999999999999B"]
-# how often each is drawn
+# How often each command is drawn.
 VERBS = [verb for verb, often in {"get": 10, "set": 10, "cast": 8, "prop": 4, "bytes": 3, "tolist": 3, "view": 2, "release": 2, "toreadonly": 2, "len": 1, "range": 1, "contig": 1, "enter": 1, "exit": 1, "del": 3, "take": 1, "compare": 6, "hash": 1, "repr": 1, "iter": 3, "next": 8, "hint": 2, "setstate": 2, "contains": 2, "hex": 2, "call": 14, **dict.fromkeys(EDITS, 1)}.items() for _ in range(often)]
 PROPERTIES = "exports obj nbytes readonly itemsize ndim shape strides suboffsets format contiguous c_contiguous f_contiguous".split()
 
 
 class Drawn:
-    """Lines that are drawn, each with its reply."""
+    """Draws lines, each with its reply."""
 
     def __init__(self, seed):
         self.draw = random.Random(seed)
@@ -609,7 +609,7 @@ class Drawn:
         return self.one([self.number, self.number, self.number, self.bytes, self.handle, lambda: self.one(["None", "True", "False", "...", "'B'", "'a,b'"])])()
 
     def subject(self, handle):
-        """What a handle names; nothing where that is unknown, released or an iterator."""
+        """What a handle names, or nothing if that is unknown, released or an iterator."""
         at = int(handle[1:])
         return None if at >= len(self.world.objects) or not self.has_items(at) else self.world.objects[at]
 
@@ -617,7 +617,7 @@ class Drawn:
         return at not in self.world.released and at not in self.world.iterators
 
     def place(self, subject):
-        """An index or a tuple, mostly of an item."""
+        """An index or a tuple, which mostly names an item."""
         if subject is None or self.draw.random() < 0.1:
             return self.number()
         shape = getattr(subject, "shape", (len(subject),))
@@ -678,7 +678,7 @@ class Drawn:
         return self.value()
 
     def shape(self, subject, text):
-        """A shape, mostly of as many items as there are."""
+        """A shape, which mostly has as many items as there are."""
         if subject is None or self.draw.random() < 0.1:
             return self.value()
         try:
@@ -703,7 +703,7 @@ class Drawn:
         return self.one([lambda: f"x{self.draw.randbytes(size).hex()}", self.handle, lambda: f"[{','.join(parts)}]", lambda: f"({','.join(parts)})", self.value])()
 
     def size(self):
-        """A size, of few bytes or of none that there could be."""
+        """A size: of few bytes, or one that no bytes could have."""
         return str(self.one([0, 1, 2, 5, 16, -1, -(2**63), 2**63, 2**126]))
 
     def options(self):
@@ -734,13 +734,13 @@ class Drawn:
         if verb == "pop":
             return self.one(["", f" {index()}"])
         if verb == "imul":
-            # one byte so many times would be fit, and there is no memory for them
+            # a single byte so many times would fit, but there is no memory for it
             most = str(2**63 - 1) if room > 1 else "2"
             return f" {self.one(['1', '2', '3', '0', '-1', 'True', 'None', str(2**63), most]) if room < 100 else 0}"
         return self.options() if verb == "init" else ""
 
     def compared(self, subject):
-        """What a subject might be equal to: mostly what has as many items, or the subject's bytes."""
+        """What a subject might be equal to. Mostly it has as many items, or is the subject's bytes."""
         shape_of = lambda it: it.shape if hasattr(it, "shape") else (len(it),)
         alike = [at for at, it in enumerate(self.world.objects) if self.has_items(at) and subject is not None and shape_of(it) == shape_of(subject)]
         if alike and self.draw.random() < 0.5:
@@ -762,7 +762,7 @@ class Drawn:
         part = lambda: f"x{content[start : start + self.draw.randrange(4)].hex()}"
         parts = lambda marks: f"{marks[0]}{','.join(self.one([part, part, self.handle, self.scalar])() for _ in range(self.draw.randrange(4)))}{marks[1]}"
         if kind == "size":
-            # there is no memory for a great size that a word has
+            # there is no memory for a great size that still fits a word
             return self.one([str(self.draw.randrange(-3, 40)), str(self.draw.randrange(-3, 40)), str(-WORD), str(WORD), "True", "None", "'B'", self.handle()])
         if self.draw.random() < 0.1:
             return self.value()
@@ -795,7 +795,7 @@ class Drawn:
         if verb in ("contains", "call"):
             strings = [f"h{at}" for at in range(len(self.world.objects)) if not self.world.is_unknown([verb, f"h{at}"])]
             handles = self.draw.sample(strings[-9:], min(4, len(strings))) + handles
-        # mostly of a subject that has the command
+        # mostly a subject that has the command
         handle = next((it for it in handles if self.draw.random() < 0.1 or not self.world.is_unknown([verb, it, "0", "0"])), handles[0])
         subject = self.subject(handle)
         if verb == "get":

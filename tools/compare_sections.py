@@ -1,13 +1,13 @@
 #!/usr/bin/env python3
-"""Compares what `example_elf` prints of the sections of programs with what `readelf -h -S` says, and ends with status 1 where
+"""Compares what `example_elf` prints of the sections of programs with what `readelf -h -S` says, and ends with status 1 if
 they differ.
 
-    python3 tools/compare_sections.py            of the programs that the gate built
-    python3 tools/compare_sections.py FILE..     of these files
-    python3 tools/compare_sections.py --stored   of its stored input, by what is stored of its output: this needs no program
+    python3 tools/compare_sections.py            compares the programs that the gate built
+    python3 tools/compare_sections.py FILE..     compares these files
+    python3 tools/compare_sections.py --stored   compares its stored input with its stored output, which needs no program
     python3 tools/compare_sections.py --write    writes what `example_elf` has to print of its stored input
 
-The last line counts the files. Where `readelf` isn't there, or with --stored, those that are not compared are skipped.
+The last line counts the files. Files that aren't compared are skipped, as with `--stored` or if `readelf` isn't there.
 """
 import pathlib
 import re
@@ -20,7 +20,7 @@ READER = ROOT / "crates/example_elf"
 PROGRAM = READER / "out/example_elf"
 PROGRAMS = [ROOT / "crates/pybuf_program/out/pybuf_program", PROGRAM]
 
-# The numbers of the types and of the flags of sections, by what `readelf` writes for them.
+# The numbers of the types and the flags of sections, by the words that `readelf` writes for them.
 TYPES = {
     "NULL": 0,
     "PROGBITS": 1,

@@ -1,7 +1,7 @@
-"""What the program has to write on standard error, by what it was run on, for `tools/run_cases.py` and `tools/hostile.py`.
+"""What the program has to write on standard error, by its input and words. This is for `tools/run_cases.py` and `tools/hostile.py`.
 
-Of a case with a file `NAME.stderr` that is the file's text. Of every other it is told here by Python's own means: which line is shown, which
-record is cut, and that all forms of words stand behind a wrong one.
+If a case has a file `NAME.stderr`, this is the file's text. For every other case it is told here by Python's own means: which line is shown,
+which record is cut, and that behind a wrong form of words all forms stand.
 """
 
 import re
@@ -19,12 +19,12 @@ FORMS = b"""usage: pybuf [run] < input
        pybuf table FORMAT [K OP N] < input
        pybuf nd SHAPE KEY [T] < input
 """
-# So many bytes of a line or a word are shown.
+# How many bytes of a line or a word are shown.
 SHOWN = 60
 
 
 def quoted(text):
-    """A text as the program shows it: as Python writes bytes, with dots where it is cut."""
+    """A text as the program shows it. It is written as Python writes bytes, with dots where it is cut."""
     return repr(text[:SHOWN])[1:].encode() + (b".." if len(text) > SHOWN else b"")
 
 
@@ -33,7 +33,7 @@ def counted(number, what):
 
 
 def fault_of_line(given, written, told):
-    """What is wrong with what was told of a line that is no command."""
+    """What is wrong with what the program said of a line that is no command."""
     found = re.fullmatch(rb"line ([0-9]+) is not a command\n", written)
     if not found:
         return None
@@ -49,7 +49,7 @@ def fault_of_line(given, written, told):
 
 
 def told_of_data(words, given):
-    """What has to be told of data that don't fit."""
+    """What the program has to say of data that don't fit."""
     if words[0] == b"table":
         size = struct.calcsize(words[1].decode())
         number, left = divmod(len(given), size)

@@ -1,9 +1,9 @@
 #!/usr/bin/env python3
-"""Draws the pictures of `docs/pictures`, and writes them: two from the replies of the program, that of the floors from `crates.txt`, and
-that of the kernels from `bench/figures/kernels.txt`.
+"""Draws the pictures of `docs/pictures`, and writes them. Two are drawn from the replies of the program, the picture of the floors from
+`crates.txt`, and the picture of the kernels from `bench/figures/kernels.txt`.
 
     python3 tools/draw_pictures.py [PROGRAM]
-    python3 tools/draw_pictures.py --stored      from the replies that are stored beside the examples, where no program was built
+    python3 tools/draw_pictures.py --stored      uses the replies that are stored beside the examples, so it needs no program
 
 PROGRAM is what the gate built, `crates/pybuf_program/out/pybuf_program`, where none is named. It is run on two examples, whose replies
 `tools/run_cases.py` compares with those that are stored beside them. From the stored ones `tools/check_documents.py`
@@ -47,7 +47,7 @@ class Picture:
         self.parts.append(f'<rect x="{x:g}" y="{y:g}" width="{width:g}" height="{height:g}" rx="{round}" fill="{fill}" stroke="{edge}"/>')
 
     def arrow(self, x, y, to):
-        """An arrow downwards."""
+        """An arrow that points down."""
         self.parts.append(f'<path d="M{x:g} {y:g}V{to - 6:g}M{x - 4:g} {to - 7:g}L{x:g} {to:g}L{x + 4:g} {to - 7:g}Z" stroke="{SOFT}" fill="{SOFT}"/>')
 
     def svg(self):
@@ -64,7 +64,7 @@ class Picture:
 
 
 def starts_of(places, size):
-    """The first place of each item, from the places of all its bytes; each item's bytes lie one after the other."""
+    """The first place of each item, from the places of all bytes. The bytes of an item lie one after the other."""
     starts = list(places[::size])
     assert list(places) == [start + i for start in starts for i in range(size)]
     return starts
@@ -130,7 +130,7 @@ def picture_of_places(reply):
 
 
 def picture_of_reply(reply, bad):
-    """How a line becomes a reply: a step a row, and a column for each of three lines."""
+    """How a line becomes a reply. Each step has a row, and each of three lines has a column."""
     left, wide, gap, high, row, top = 172, 236, 16, 50, 74, 62
     view = "h4"
     places = ast.literal_eval(reply[f"bytes {view}"])
@@ -222,7 +222,7 @@ def floors():
 
 
 def picture_of_floors():
-    """The crates as a house: a floor stands on those below it. What is no part of the library is grey, on top."""
+    """The crates as a house, where each floor stands on those below it. What isn't part of the library is grey and on top."""
     left, wide, high, step, gap = 150, 980, 28, 40, 8
     rows = []
     for name, crates in reversed(floors()):

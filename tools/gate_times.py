@@ -1,12 +1,12 @@
 #!/usr/bin/env python3
-"""Runs the gate, and tells how long it took, and what each crate took of that.
+"""Runs the gate, and says how long it took, and how much of that each crate took.
 
     python3 tools/gate_times.py [COMMAND..]     COMMAND is `.ci/run` if none is given
 
 What the command prints is passed on. Behind it stand the minutes, the processor minutes of all processes that it started, and whether
-that is of a run from nothing: a gate that kept something of an earlier run says so, and its figures are none of a whole one. Then
-a row for each crate: the processor minutes of its proof, of its tests, of its edits (with the proof of the crate that they begin with, and
-of the one behind them) and of what was built of it; and the longest single works. It ends with the status of the command.
+this was a run from nothing. A gate that kept something of an earlier run says so, and its figures aren't those of a whole run. Then
+comes a row for each crate: the processor minutes of its proof, of its tests, of its edits (with the proof of the crate that they begin with, and
+of the one behind them) and of what was built of it; and then the longest single works. It ends with the status of the command.
 
 Twice a second the processes of the prover are looked at, so what they do at their very end isn't in the rows. The sum of all
 processes is the system's own, and what is in no row is `rt`, the tests, the programs and the cases.
@@ -29,7 +29,7 @@ ROOT = pathlib.Path(__file__).resolve().parent.parent
 TICKS = os.sysconf("SC_CLK_TCK")
 LONGEST = 12
 PAUSE = 0.5
-# What the words of `prctl` are by which a process becomes the parent of those that lose theirs.
+# The arguments of `prctl` by which a process becomes the parent of processes that lose their own.
 SET_CHILD_SUBREAPER = 36
 COLUMNS = ("proof", "tests", "edits", "programs")
 # The column of each kind of work.
@@ -39,7 +39,7 @@ PART = re.compile(r"done in this run: (.*?); the others are kept")
 
 
 def processes():
-    """Of each process of the prover that was started from here its parent's number, its words, its folder and its time."""
+    """Each process of the prover that was started from here: its parent's number, its words, its folder and its time."""
     found = {}
     for number, (words, stat) in started_from_here().items():
         if words[0].endswith("/rattle"):
@@ -69,7 +69,7 @@ def edited(crate, edit):
 
 
 def edit_named(crate, folder):
-    """The name of the edit that a copy of a crate was made by. None for the crate as it is."""
+    """The name of the edit by which a copy of a crate was made. It is None for the crate as it is."""
     for edit in sorted((ROOT / "crates" / crate / "must-fail").glob("*.edit")):
         texts = edited(crate, edit)
         if texts and all(read(f"{folder}/{file}") == text for file, text in texts.items()):
@@ -78,7 +78,7 @@ def edit_named(crate, folder):
 
 
 def what(words, folder):
-    """The kind of a process's work, and what it is done for. None for a process that proves nothing."""
+    """The kind of a process's work, and what the work is done for. It is None for a process that proves nothing."""
     if "--crate-name" not in words or words[1] not in ("build", "check"):
         return None
     crate = words[words.index("--crate-name") + 1]
@@ -157,7 +157,7 @@ def longest(works):
 
 
 def origin(said):
-    """Whether the figures are of a run from nothing."""
+    """Whether the figures are those of a run from nothing."""
     kept = next((PART.search(line) for line in said if PART.search(line)), None)
     if kept:
         return f"NOT from nothing: done in this run were {kept[1]}, and the others were kept, so these figures are none of a whole gate"

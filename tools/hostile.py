@@ -1,25 +1,25 @@
 #!/usr/bin/env python3
-"""Tries the built program where memory is refused, and on lines that were changed at random, and tells what it did.
+"""Runs the built program while memory is refused, and on lines that were changed at random, and says what it did.
 
     python3 tools/hostile.py refused [--try] [--last N]
     python3 tools/hostile.py mutated [--count N] [--seed N]
 
-It is no part of the gate. The program is `crates/pybuf_program/out/pybuf_program`, or what `--program` names. It ends with status 1 where a
-run ended otherwise than it may.
+It isn't part of the gate. The program is `crates/pybuf_program/out/pybuf_program`, or what `--program` names. The script ends with
+status 1 if a run ended in a way that isn't allowed.
 
 `refused` runs a few cases of `cases/worked`, two of them of `array`, two inputs of `share` and three of `table`, with one growth of memory refused, the first, then the second, and so on until a
-run needs no more of them, and once more with every growth refused from there on. A run may end with what is written of the
-case and status 0; else it has to end with status 3, its line on standard error, and the replies of the first commands, each
-whole. Of sessions in an order that is open, what is written has to be what one thread gets, as far as it goes
-(`tools/check_sessions.py`). What refuses is a small library, compiled by `cc`, that stands before the C library's `malloc`. With `--try` the
+run needs no more of them. Each number is run once more with every growth refused from there on. A run may end with the whole output of
+the case and status 0. Else it has to end with status 3, its line on standard error, and the replies of the first commands, each
+whole. If sessions come in an open order, what is written has to be what a single thread gets, as far as it goes
+(`tools/check_sessions.py`). What refuses memory is a small library, compiled by `cc`, that stands before the C library's `malloc`. With `--try` the
 toolchain refuses, by `rt try --fail-alloc`, which builds the program anew for each number: that takes a minute for each,
 so `--last` says which number is the last.
 
 `mutated` takes a case of `cases/worked` or `examples`, of which each line is a command, and changes one line: a byte is
 changed, put in, left out or doubled, two bytes change places, two parts between blanks do, or a number becomes another.
 Lines that would ask for more than a million bytes are drawn again. The program has to end with status 0 and as many lines
-of replies as the input has lines, or with status 2 and the number of the changed line. So it does with lines of the cases of
-`share`, of which what is written has to be what one thread gets too, and with those of `cases/arrays`.
+of replies as the input has lines, or with status 2 and the number of the changed line. The same is done with lines of
+`cases/arrays`, and with lines of the cases of `share`, where what is written also has to be what a single thread gets.
 """
 
 import argparse
@@ -43,7 +43,7 @@ WORKED, SESSIONS, ARRAYS, TABLES = (ROOT / "cases" / name for name in ("worked",
 SECONDS = 20
 DONE, BAD_LINE, NO_MEMORY = 0, 2, 3
 NO_MEMORY_LINE = b"pybuf: no memory\n"
-# The cases whose memory is refused: items of two bytes, a slice that is assigned over itself, casts and edits.
+# The cases whose memory is refused. They have items of two bytes, a slice that is assigned over itself, casts and edits.
 REFUSED = [
     "items-of-two-bytes-are-listed-and-written",
     "a-slice-is-assigned-one-place-on",
@@ -111,7 +111,7 @@ Ended = collections.namedtuple("Ended", "status written complaint refused", defa
 
 
 def run(program, given, environment=None, told=None, words=()):
-    """Runs the program on an input. `told` is the end of a pipe to which it may write as number 3."""
+    """Runs the program on an input. `told` is the end of a pipe, which the program may write to as number 3."""
     keep = {} if told is None else {"pass_fds": (3,), "preexec_fn": lambda: os.dup2(told, 3)}
     pipes = dict.fromkeys(("stdout", "stderr"), subprocess.PIPE)
     ended = subprocess.run([program, *words], input=given, env=environment or {}, timeout=SECONDS, **pipes, **keep)
@@ -123,7 +123,7 @@ def lines_of(text):
 
 
 def fault_of_shared(program, given, ended):
-    """The same of sessions, whose order is open."""
+    """The same for sessions, whose order is open."""
     if ended.status not in (DONE, NO_MEMORY):
         return f"it ended with status {ended.status}"
     if ended.complaint != (NO_MEMORY_LINE if ended.status else b""):
@@ -157,7 +157,7 @@ def refusing_library(folder):
 
 
 def with_refusal(program, library, given, number, behind, words):
-    """A run with the growth of this number refused, and all behind it too where `behind` says so."""
+    """A run in which the growth with this number is refused, and all later ones too if `behind` says so."""
     reading, writing = os.pipe()
     environment = {"LD_PRELOAD": str(library), "REFUSE_AT": str(number), "REFUSE_ON": str(int(behind))}
     ended = run(program, given, environment, writing, words)
@@ -173,7 +173,7 @@ def words_of(path):
 
 
 def refused_of_case(program, library, folder, name, behind):
-    """The runs of a case with one number after the other, until a run needs no more growths: a fault or None for each."""
+    """Runs a case with one number after the other, until a run needs no more growths, and gives a fault or None for each run."""
     given, whole = (folder / name).read_bytes(), (folder / f"{name}.stdout").read_bytes()
     words = words_of(folder / name)
     statuses, fronts, faults = collections.Counter(), collections.Counter(), []
@@ -212,7 +212,7 @@ def refused(program):
 
 
 def refused_by_try(last):
-    """The same by the toolchain: a build for each number, and with it a run of each case."""
+    """The same by the toolchain. It builds once for each number, and then runs each case."""
     faults, statuses = [], collections.Counter()
     for number in range(1, last + 1):
         for name in REFUSED:
@@ -220,7 +220,7 @@ def refused_by_try(last):
             words = ["rt", "try", "--fail-alloc", str(number)]
             pipes = dict.fromkeys(("stdout", "stderr"), subprocess.PIPE)
             ended = subprocess.run(words, input=given, cwd=ROOT / "crates/pybuf_program", **pipes)
-            # (the toolchain tells of its run on standard error too)
+            # (the toolchain also writes of its run on standard error)
             complaint = NO_MEMORY_LINE if NO_MEMORY_LINE in ended.stderr else b""
             statuses[ended.returncode] += 1
             fault = fault_of(Ended(ended.returncode, ended.stdout, complaint), whole)
@@ -235,7 +235,7 @@ NUMBERS = [b"0", b"-1", b"1", b"2", b"7", b"255", b"256", b"65536", b"999999"]
 NUMBERS += [b"9223372036854775808", b"-9223372036854775809", b"18446744073709551616"]
 NUMBERS += [b"170141183460469231731687303715884105727", b"-170141183460469231731687303715884105728", b"1" + b"0" * 40]
 BYTES = bytes(range(32, 127)) + b"\t\r\x00\xff\x80" + b"0123456789abcdefhvx'(),:[]<>=! " * 4
-# A number that may be the size of something, and is larger than a million. It may begin with zeros.
+# A number that may be the size of something and is larger than a million. It may begin with zeros.
 LARGE = re.compile(rb"(?<![0-9A-Za-z])0*[0-9]{7,19}(?![0-9])")
 
 
@@ -265,7 +265,7 @@ def changed(draw, line):
 
 
 def mutated_input(draw, inputs):
-    """A case with one line changed: the lines, and the number of that line."""
+    """The lines of a case, of which one is changed, and the number of that line."""
     while True:
         lines = list(draw.choice(inputs))
         at = draw.randrange(len(lines))
@@ -298,7 +298,7 @@ def fault_of_mutated(program, lines, number, words=()):
 
 
 def fault_of_mutated_sessions(program, lines, number):
-    """The same of lines of sessions."""
+    """The same for lines of sessions."""
     try:
         ended = run(program, b"".join(line + b"\n" for line in lines), words=["share"])
         fault = None
@@ -334,7 +334,7 @@ def mutated(program, count, seed):
 
 
 def mutated_arrays(program, count, draw):
-    """Lines of operations of arrays."""
+    """The same for lines of operations on arrays."""
     cases = [path for path in sorted(ARRAYS.iterdir()) if not path.suffix]
     drawn = []
     for _ in range(count):
@@ -355,7 +355,7 @@ def mutated_arrays(program, count, draw):
 def mutated_cases(program, count, draw):
     inputs = [path for folder in (WORKED, ROOT / "examples") for path in sorted(folder.iterdir())]
     inputs = [it for it in inputs if not it.suffix and not it.with_name(it.name + ".args").exists()]
-    # (a case whose output tells of a line that is no command has such a line already)
+    # (if the output of a case tells of a line that is no command, the case has such a line already)
     inputs = [it.read_bytes() for it in inputs if b" is not a command" not in it.with_name(it.name + ".stdout").read_bytes()]
     inputs = [it.removesuffix(b"\n").split(b"\n") for it in inputs]
     drawn = [mutated_input(draw, inputs) for _ in range(count)]

@@ -1,11 +1,11 @@
 #!/usr/bin/env python3
-"""Writes the man pages: pybuf(1) and pybuf-lines(5) of two pages of reference, and pybuf(3) of the header's comments.
+"""Writes the man pages: pybuf(1) and pybuf-lines(5) from two pages of reference, and pybuf(3) from the header's comments.
 
     tools/man_pages.py FOLDER
 
-The pages are docs/reference/commands.md, with the lines and replies, and docs/reference/forms.md, with the words behind the program's name and
-the statuses. Words, statuses and what reads no lines go to pybuf(1), and all else to pybuf-lines(5). So what a man page says stands in
-one place.
+The pages are docs/reference/commands.md, which has the lines and replies, and docs/reference/forms.md, which has the words behind the
+program's name and the statuses. The words, the statuses and the forms that read no lines go to pybuf(1), and everything else goes to
+pybuf-lines(5). So what a man page says stands in one place.
 """
 import pathlib
 import re
@@ -18,9 +18,9 @@ from version import version
 ROOT = pathlib.Path(__file__).resolve().parent.parent
 HEADER = ROOT / "include/pybuf.h"
 LINES, FORMS = ROOT / "docs/reference/commands.md", ROOT / "docs/reference/forms.md"
-# The headings that pybuf(1) has; the first and the last have to be there.
+# The headings of pybuf(1). The first and the last have to be there.
 OF_PROGRAM = ("Words", "Scripts", "Tables", "Shapes", "Statuses")
-# Stands for a star until a page is whole.
+# It stands for a star until a page is whole.
 STAR = "\0"
 EPILOGUES = {
     "pybuf.1": ".SH SEE ALSO\n.BR pybuf\\-lines (5),\n.BR pybuf (3)\n",
@@ -54,7 +54,7 @@ def inline(text):
 
 
 def cells_of(line):
-    """The cells of a line of a table; a bar between backquotes or behind a backslash parts none."""
+    """The cells of a line of a table. A bar between backquotes or behind a backslash doesn't part cells."""
     return [cell.replace("\\|", "|").strip() for cell in re.split(r"(?<!\\)\|(?=(?:[^`]*`[^`]*`)*[^`]*$)", line.strip().strip("|"))]
 
 
@@ -141,7 +141,7 @@ def of_commands():
 
 
 def comment_text(comment):
-    """A comment as Markdown: its paragraphs, each in one line. A star in it is a pointer's, and no emphasis."""
+    """A comment as Markdown, with each paragraph in one line. A star in it belongs to a pointer, and isn't emphasis."""
     comment = comment.replace("*", STAR)
     lines = [re.sub(rf"^ ?{STAR}? ?", "", line).rstrip() for line in comment.strip().split("\n")]
     made = [""]

@@ -2,9 +2,9 @@
 """Writes what the program `golden_picture` has to write: the levels of a picture and of its parts, by NumPy's views.
 
     python3 tools/numpy_picture.py            writes it
-    python3 tools/numpy_picture.py --check    writes nothing, and ends with 1 where the file would change
+    python3 tools/numpy_picture.py --check    writes nothing, and ends with 1 if the file would change
 
-It needs NumPy (Debian's `python3-numpy`). What it writes is kept, so nothing else does. Each view is made of the one before and
+It needs NumPy (Debian's `python3-numpy`). What it writes is kept, so nothing else needs NumPy. Each view is made of the one before and
 shares its bytes; a level is painted through the last one, and the picture shows it.
 """
 import pathlib

@@ -3,19 +3,19 @@
 given and has to write.
 
     python3 tools/numpy_views.py            writes them
-    python3 tools/numpy_views.py --check    writes nothing, and ends with 1 where a file would change
+    python3 tools/numpy_views.py --check    writes nothing, and ends with 1 if a file would change
 
-It needs NumPy (Debian's `python3-numpy`). What it writes is kept, so nothing else does.
+It needs NumPy (Debian's `python3-numpy`). What it writes is kept, so nothing else needs NumPy.
 
 Shapes, slices, orders of axes and places are drawn from a fixed seed. A case of `cases/nd` has the bytes of an array as its
 input, and its words in a file with the ending `.args`: `selections-N` has what slices pick, in turn as they stand and
-transposed; `misfits-N` have more bytes than the shape, or fewer. The rest are words that the program refuses.
+transposed. `misfits-N` has more bytes than the shape, or fewer. The other cases have words that the program refuses.
 
 A line of the table has a shape of up to four dimensions with entries from 1 to 3, and up to four steps, each of which makes
 a view of the view before: `slice` and a tuple of slices, `order` and the axes in their order, `turn`, `pick` and an axis and
 a place. The program writes the shape, the strides and the items of the last view, which are the numbers of their places, and
-the bytes of the array once others were assigned to these items, or that a step was refused. NumPy makes views that the program refuses: those without items of which another dimension than the
-first has no entry, and an order or a place of one of which a dimension has none.
+the bytes of the array once others were assigned to these items, or that a step was refused. NumPy makes views that the program refuses. These are views without items in which a dimension other than
+the first has no entry, and an order or a place of a view in which a dimension has none.
 """
 import itertools
 import math
@@ -37,7 +37,7 @@ LARGE = 2**127
 
 
 def slice_of(draw, entries):
-    """A slice of so many entries, each of whose parts may be absent, and may lie past the ends."""
+    """A slice of so many entries. Each of its parts may be absent, and may lie past the ends."""
 
     def part():
         return draw.choice([None, None, draw.randint(-entries - 2, entries + 2)])
@@ -46,7 +46,7 @@ def slice_of(draw, entries):
 
 
 def some_slice_of(draw, entries):
-    """A slice that picks an entry, where there is one."""
+    """A slice that picks an entry, if there is one."""
     while True:
         drawn = slice_of(draw, entries)
         if range(entries)[drawn] or not entries:
@@ -54,7 +54,7 @@ def some_slice_of(draw, entries):
 
 
 def key_of(draw, shape):
-    """A slice for each dimension: in most keys each picks an entry."""
+    """A slice for each dimension. In most keys each of them picks an entry."""
     drawn = slice_of if draw.random() < 0.15 else some_slice_of
     return tuple(drawn(draw, entries) for entries in shape)
 
@@ -98,7 +98,7 @@ def selected(array, key, turn):
 
 
 def selections():
-    """What drawn slices pick of drawn shapes, of one dimension in turn to six, and once of 32, as many as NumPy has."""
+    """What drawn slices pick from drawn shapes. These have one to six dimensions in turn, and once 32, which is NumPy's limit."""
     draw = random.Random(61)
     for number in range(72):
         shape = [draw.choice([1, 2, 3, 4, 5, 7]) for _ in range(number // 2 % 6 + 1)]
@@ -120,7 +120,7 @@ def misfits():
 
 ALL = "None:None:None"
 
-# Words behind `nd` that are none.
+# Words behind `nd` that the program refuses.
 REFUSED = {
     "no-word": [],
     "a-shape-alone": ["[2,3]"],
@@ -164,7 +164,7 @@ def refused():
 
 SIX = bytes(range(6))
 
-# What is taken, with the shape and the key as NumPy has them.
+# Words that are taken, with the shape and the key as NumPy has them.
 TAKEN = {
     # numbers go to the ends of 128 bits and may have zeros in front, and a truth value is a number
     "the-greatest-stop": (["[6]", f"(0:{LARGE - 1}:1)"], [6], [slice(0, LARGE - 1, 1)]),
@@ -192,16 +192,16 @@ def taken():
 
 
 def can_be(view):
-    """Whether a descriptor of it is valid."""
+    """Whether the descriptor of a view is valid."""
     return 0 not in view.shape[1:]
 
 
-# The first of the bytes that are assigned: greater than each byte of an array.
+# The first of the bytes that are assigned. It is greater than each byte of an array.
 FIRST = 100
 
 
 def step_of(draw, view):
-    """A drawn step, and the view that it makes, or None where it is refused."""
+    """A drawn step, and the view that it makes, or None if it is refused."""
     axes = list(range(view.ndim))
     kinds = ["turn", "order"] + (["slice", "slice", "pick"] if axes else [])
     kind = draw.choice(kinds)
@@ -215,7 +215,7 @@ def step_of(draw, view):
         entries = view.shape[axis]
         place = draw.randint(-entries - 1, entries)
         made = None if has_no_entry or not -entries <= place < entries else view.take([place], axis)
-        # (`take` copies: the view is by an index)
+        # (`take` copies, so the view is made by an index)
         if made is not None:
             made = view[(slice(None),) * axis + (place, ...)]
         return f"pick ({axis},{place})", made
@@ -241,7 +241,7 @@ def line_of(draw, shape, depth):
         return line, "refused"
     shown = [shape_text(view.shape)]
     if 0 not in view.shape:
-        # (of a dimension of one entry no place depends on the stride)
+        # (if a dimension has one entry, no place depends on its stride)
         strides = [stride if n > 1 else "-" for n, stride in zip(view.shape, view.strides)]
         shown += [tuple_text(map(str, strides)), *map(str, view.flatten().tolist())]
     view[...] = numpy.arange(FIRST, FIRST + view.size, dtype=numpy.uint8).reshape(view.shape)

@@ -1,4 +1,4 @@
-"""Says of each block of code of a page how it is checked, and which are not: `tools/check_documents.py` refuses these.
+"""Says how each block of code of a page is checked, and which blocks aren't checked. `tools/check_documents.py` refuses the latter.
 
 A block stands between fences, or is indented by four blanks behind an empty line. These are checked:
 
@@ -11,7 +11,7 @@ A block stands between fences, or is indented by four blanks behind an empty lin
 - the blocks of `docs/tasks/install.md`, which `tools/check_release.py` runs;
 - must-fail edits, which begin with `file: `.
 
-Any other block has the line `<!-- not run: REASON -->` before it, maybe with words between, and no block.
+Any other block has to have the line `<!-- not run: REASON -->` before it. Words may stand between them, but no other block.
 """
 import pathlib
 import re
@@ -20,7 +20,7 @@ ROOT = pathlib.Path(__file__).resolve().parent.parent
 CHECKED = ("rust", "antt", "c", "rs", "python", "diff")
 MARK = re.compile(r"<!-- not run: (.+) -->")
 COMMAND = re.compile(r" {4}\$ ((?:cd crates/pybuf_program && )?rt try < \.\./\.\./examples/\S+|printf .* \| pybuf(?: (?:array|table|share).*)?|pybuf make \d+)")
-# Commands whose output is that of a tested file: the file, by what the command has.
+# Commands whose output is that of a tested file. The file is found by what the command contains.
 EXPECTED = [
     (re.compile(r" {4}\$ gcc .* && \./(\w+)"), "bindings/c/{}.expected"),
     (re.compile(r" {4}\$ cargo (run)"), "bindings/rust/first.expected"),
@@ -33,7 +33,7 @@ STATUS = re.compile(r" {4}\$ echo \$\?")
 
 
 def blocks(lines):
-    """The blocks of a page: the number of the first line, the language (`None` where it is indented), and the lines."""
+    """The blocks of a page: the number of the first line, the language (`None` if it is indented), and the lines."""
     found, at = [], 0
     while at < len(lines):
         if lines[at].startswith("```"):
@@ -86,7 +86,7 @@ def is_checked(document, language, block):
 
 
 def faults_of(document, lines):
-    """What is wrong with the blocks of a page, a line each."""
+    """What is wrong with the blocks of a page, with a line for each fault."""
     faults, last = [], 0
     script = FOLLOWED.get(str(document.relative_to(ROOT)))
     if script is not None and (ROOT / script).exists():

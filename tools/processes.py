@@ -1,11 +1,11 @@
-"""The processes that were started from this one, through others too."""
+"""The processes that this one started, and those that they started in turn."""
 
 import os
 import pathlib
 
 
 def read(path):
-    """The text of a file of a process, none where the process has ended."""
+    """The text of a file of a process. It is empty if the process has ended."""
     try:
         return pathlib.Path(path).read_bytes().decode(errors="replace")
     except OSError:
@@ -13,7 +13,7 @@ def read(path):
 
 
 def started_from_here():
-    """By the number of each such process its words, and the numbers that the system tells of it, from its state on."""
+    """The words of each such process, and the numbers that the system has of it, from its state on. The key is its number."""
     stats = {}
     for number in filter(str.isdigit, os.listdir("/proc")):
         stat = read(f"/proc/{number}/stat").rpartition(")")[2].split()

@@ -1,11 +1,11 @@
 #!/usr/bin/env python3
-"""Passes on what `rt ci` says, line by line, and says between its lines how far it is.
+"""Passes on what `rt ci` says, line by line, and says between these lines how far it is.
 
     rt ci | tools/progress.py
 
-Behind each line that tells that a crate or its tests were proved stands one with how many of how many that makes, and the minutes
-since the start. While nothing comes for two minutes, such a line stands there all the same. It reads the names of the crates from
-`crates.txt`, and the tests and edits from their folders. The line with how many have passed it keeps in `out/gate-count.txt`.
+Behind each line that tells that a crate or its tests were proved stands a line of its own. It says how many of how many are proved, and
+the minutes since the start. If nothing comes for two minutes, such a line is written all the same. The script reads the names of the crates from
+`crates.txt`, and the tests and edits from their folders. It keeps the line with how many have passed in `out/gate-count.txt`.
 """
 import os
 import pathlib
@@ -40,7 +40,7 @@ class Progress:
         self.of_edits = len(list((ROOT / "crates").glob("*/must-fail/*.edit")))
 
     def is_told_by(self, line):
-        """Whether the line tells that something more is done."""
+        """Whether the line tells that one more thing is done."""
         proved, tries = PROVED.fullmatch(line), TRIES.fullmatch(line)
         if proved:
             (self.tested if proved[2] else self.proved).add(proved[1])

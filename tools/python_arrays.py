@@ -2,12 +2,12 @@
 """Writes the cases of `cases/arrays`: operations on typed arrays, with the replies of Python's `array` and `memoryview`.
 
     python3 tools/python_arrays.py            writes them
-    python3 tools/python_arrays.py --check    writes nothing, and ends with 1 where a file would change
+    python3 tools/python_arrays.py --check    writes nothing, and ends with 1 if a file would change
 
-For each code there is a case of operations that are drawn from a fixed seed, and one at the ends of its range, with a
-view that is unreleased and without. Where we differ, the reply is ours, and one of `DIFFERENCES` says why; that Python's
-is another there than is said, or ours where none is said, stops the script. Each of these has a case by itself too,
-written down by hand, and `cases/array-differences.txt` has Python's replies beside ours.
+Each code has a case of operations that are drawn from a fixed seed, and a case of numbers at the ends of its range, with
+an unreleased view and without one. If we differ, the reply is ours, and one of `DIFFERENCES` says why. The script stops if
+Python's reply isn't the one that is said there, or if our reply differs and none is said. Each difference also has a case
+of its own, written down by hand, and `cases/array-differences.txt` has Python's replies beside ours.
 """
 import array
 import pathlib
@@ -33,7 +33,7 @@ CODES = {
     "Q": "unsigned-long-long",
 }
 FAULTS = (IndexError, ValueError, TypeError, BufferError, OverflowError)
-# Slices whose parts are of a wrong kind, or a step of 0, and truth values, which count as their numbers.
+# Slices with parts of a wrong kind, or with a step of 0, and slices with truth values, which count as their numbers.
 ODD_SLICES = ("None:None:0", "x61:None:None", "None:...:None", "None:None:h0", "True:None:None", "1:None:True", "0:x:0", "...:h1:False")
 NO_NUMBER = {"None": None, "True": True, "False": False, "...": Ellipsis}
 
@@ -145,12 +145,12 @@ def unknown_view(python, word, words):
 
 
 def out_of_range_through_a_view(python, word, words):
-    """A number that the code hasn't is `OverflowError` through a view too (Python: `ValueError`)."""
+    """A number out of the code's range is `OverflowError` through a view too (Python: `ValueError`)."""
     return word == "vset" and not python.holds(int(words[2]))
 
 
 def nothing_while_a_view_lives(python, word, words):
-    """While a view is unreleased, `extend` by none and `frombytes` of none are `BufferError` (Python: done)."""
+    """While a view is unreleased, `extend` by no numbers and `frombytes` of no bytes are `BufferError` (Python: done)."""
     return words in (("[]",), ("x",)) and word in ("extend", "frombytes") and python.is_live()
 
 
@@ -160,7 +160,7 @@ def list_with_one_out_of_range(python, word, words):
     return word == "extend" and not all(map(python.holds, numbers(words[0])))
 
 
-# What may differ: a test that it is so, our reply and those of Python's that may come.
+# What may differ: a test that a line differs in this way, our reply, and the replies that Python may give.
 DIFFERENCES = (
     (unknown_view, "! UnknownName", (None,)),
     (out_of_range_through_a_view, "! OverflowError", ("! ValueError",)),
@@ -170,7 +170,7 @@ DIFFERENCES = (
 
 
 class Ours:
-    """What we reply: what Python does, but for the differences."""
+    """What we reply. It is what Python replies, except for the differences."""
 
     def __init__(self, code):
         self.python = Python(code)
@@ -187,7 +187,7 @@ class Ours:
         if difference is None:
             return theirs, theirs
         _, ours, others = difference
-        # an index or a view comes before the number that is set
+        # an index or a view is checked before the number that is set
         if difference[0] is out_of_range_through_a_view and theirs != "! ValueError":
             return theirs, theirs
         if theirs == "! ValueError" and self.is_released(line):
@@ -195,7 +195,7 @@ class Ours:
         if theirs not in others:
             sys.exit(f"{line}: Python replies {theirs}, where {difference[0].__doc__}")
         if len(self.python.array) > count:
-            # what Python added of a list before the number that it refuses
+            # what Python added from a list before the number that it refuses
             del self.python.array[count:]
         return ours, theirs
 
@@ -212,7 +212,7 @@ class Ours:
 
 
 class Drawn:
-    """Operations that are drawn, with our replies."""
+    """Draws operations, with our replies."""
 
     def __init__(self, code):
         self.random = random.Random(f"{SEED} {code}")
@@ -252,7 +252,7 @@ class Drawn:
         return f"{near()}:{near()}:{step}"
 
     def view(self):
-        """The number of a view, mostly of one that is unreleased."""
+        """The number of a view, which is mostly unreleased."""
         count = len(self.python.views)
         if count == 0 or self.random.randrange(20) == 0:
             return count + self.random.randrange(3)
@@ -306,7 +306,7 @@ class Drawn:
     def drawn(self):
         for _ in range(LINES):
             self.ask(self.line())
-            # all are released now and then, so that arrays grow
+            # now and then all views are released, so that arrays grow
             if self.random.randrange(12) == 0:
                 for k, view in enumerate(self.python.views):
                     if not self.is_released(view):
@@ -347,7 +347,7 @@ class Drawn:
         return self.lines, self.replies
 
 
-# Each difference by itself: a code, and lines with Python's reply where it differs.
+# Each difference by itself: a code, and lines, which have Python's reply if it differs.
 BY_HAND = {
     "a view that was never given is an unknown name": (
         "h",
@@ -405,7 +405,7 @@ tolist              [1, 2]
 
 
 def case_by_hand(title, code, rows):
-    """The lines of a case, our replies, and Python's where they differ."""
+    """The lines of a case, our replies, and Python's replies if they differ."""
     ours, theirs = Ours(code), Python(code)
     for row in rows.strip().split("\n"):
         line, *said = (it.strip() for it in row.split("  ") if it.strip())

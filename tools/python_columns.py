@@ -2,15 +2,15 @@
 """Writes what the program `golden_columns` has to write: casts in column order and row-major, and walks in column order.
 
     python3 tools/python_columns.py            writes it
-    python3 tools/python_columns.py --check    writes nothing, and ends with 1 where the file would change
+    python3 tools/python_columns.py --check    writes nothing, and ends with 1 if the file would change
 
 The table has every shape of up to three dimensions with entries from 1 to 3, of items of one byte and of two, in column
 order (`F`) and row-major (`C`): all items, and where there are dimensions three slices along the first. Each line has the
 strides, whether the items lie without a gap row-major (`C`) and in column order (`F`), and where each item lies, in column
 order.
 
-Python says it all. `_testbuffer`, which comes with its tests, makes an array in either order (`ND_FORTRAN`) whose bytes have
-their places as values, and a memoryview of it gives strides and contiguity, and by `tobytes('F')` the places.
+All of this comes from Python. `_testbuffer`, which comes with its tests, makes an array in either order (`ND_FORTRAN`) whose bytes
+have their places as values. A memoryview of it gives strides and contiguity, and `tobytes('F')` gives the places.
 """
 import itertools
 import math

@@ -4,10 +4,10 @@
     python3 tools/python_methods.py > crates/golden_methods/stdout
 
 A line is a method, its argument (a needle, as `x` and hexadecimal digits, or the name of the texts), the number
-of answers, and the FNV-1a hash, of 64 bits, of the texts of the answers, each of which ends with a line
-feed: numbers in decimal digits, with `1` and `0` for true and false, bytes in hexadecimal digits, of a
-list each part with a comma behind it, and of a refusal the name of the exception. Of a partition the
-middle part is told as whether there was a match.
+of answers, and the FNV-1a hash, of 64 bits, of the texts of the answers. Each text ends with a line
+feed. A number is written in decimal digits, true and false as `1` and `0`, and bytes in hexadecimal
+digits. Each part of a list has a comma behind it. A refusal is written as the name of the exception.
+The middle part of a partition is written as whether there was a match.
 """
 import itertools
 import operator
@@ -16,7 +16,7 @@ BOUNDS = [None, *range(-7, 8)]
 NUMBERS = range(-2, 5)
 WIDTHS = range(-1, 9)
 REPLACEMENTS = [b"", b"a", b"bb"]
-# bytes that differ from each other: of a repeated one our `maketrans` takes the first, Python's the last
+# The bytes differ from each other: if one is repeated, our `maketrans` takes the first and Python's takes the last.
 MAPPED = [b"", b"a", b"b", b"ab", b"ba"]
 SWAPPED = bytes.maketrans(b"ab", b"ba")
 BARE = "isalnum isalpha isascii isdigit islower isspace istitle isupper lower upper swapcase capitalize title strip lstrip rstrip".split()
@@ -24,7 +24,7 @@ BOUNDED = "find rfind count startswith endswith".split()
 
 
 def texts(alphabet, longest):
-    """All texts over an alphabet up to a length, the shorter ones first."""
+    """All texts over an alphabet up to a length. The shorter ones come first."""
     return [bytes(letters) for length in range(longest + 1) for letters in itertools.product(alphabet, repeat=length)]
 
 
@@ -46,7 +46,7 @@ def shown(answer):
 
 
 def line(method, argument, call, argument_lists):
-    """The line of a method, by the call and the arguments of each answer."""
+    """The line of a method, made by its call and by the arguments of each answer."""
     count, fnv = 0, 0xCBF29CE484222325
     for arguments in argument_lists:
         try:

@@ -1,17 +1,17 @@
 """Carries out lines of commands on Python's own objects, and gives the reply texts.
 
-A `World` keeps a list of objects, `h0` being the first: `bytes`, `bytearray`, `memoryview`, and the
-iterators of these.
+A `World` keeps a list of objects, the first of which is `h0`. They are `bytes`, `bytearray`,
+`memoryview`, and the iterators of these.
 
 What a command finds is written as Python's `repr` writes it. What has no value in Python is written
-as this program does: `ok`, `stop` for `StopIteration`, a handle for an object that has a name, and
-`!` with a refusal.
+as this program writes it: `ok`, `stop` for `StopIteration`, a handle for an object that has a name,
+and `!` with a refusal.
 """
 import ctypes
 import operator
 import re
 
-# The codes of whole numbers, of truth values and of bytes to which a `memoryview` is cast.
+# The codes to which a `memoryview` is cast: those of whole numbers, of truth values and of bytes.
 NATIVE_CODES = "bBcHhiIlLqQnN?"
 
 # `PyMemoryView_GetContiguous` of Python's C API, which no call of Python reaches.
@@ -26,20 +26,20 @@ SUMS = {"add": operator.add, "concat": operator.concat, "mul": operator.mul}
 OPERATORS = {"==": operator.eq, "!=": operator.ne, "<": operator.lt, "<=": operator.le, ">": operator.gt, ">=": operator.ge}
 
 
-# What Python refuses with; with `SystemError` where it finds a refusal that it hasn't looked at.
+# The exceptions that Python refuses with. It raises `SystemError` if it finds a refusal that it hasn't looked at.
 FAULTS = (IndexError, LookupError, ValueError, TypeError, BufferError, OverflowError, NotImplementedError, AttributeError, MemoryError, SystemError)
 
 
 class NoCommand(Exception):
-    """The line is no command."""
+    """The line isn't a command."""
 
 
 class NoName(NameError):
-    """A handle that was never given."""
+    """The handle was never given."""
 
 
 class World:
-    """The objects that the lines before have made."""
+    """The objects that the lines made so far."""
 
     def __init__(self):
         self.objects = []
@@ -60,7 +60,7 @@ class World:
         except NoName:
             return "! NameError"
         except FAULTS as fault:
-            # by the class that others stand under: a `UnicodeEncodeError` is a `ValueError`
+            # the reply names the kind that the exception falls under: a `UnicodeEncodeError` is a `ValueError`
             return f"! {next(kind for kind in FAULTS if isinstance(fault, kind)).__name__}"
 
     def answer(self, words):
@@ -109,7 +109,7 @@ class World:
         return found
 
     def do_range(self, handle, subject, start, stop):
-        """A slice of a view of all bytes, but with both places in bounds."""
+        """A slice of a view of all bytes, with both places in bounds."""
         if handle in self.exporters:
             raise NoName(handle)
         start, stop = operator.index(start), operator.index(stop)
@@ -127,7 +127,7 @@ class World:
         return Reply("ok")
 
     def do_contig(self, handle, subject):
-        """The call of C gives a view of a copy; of a contiguous view it gives another view of the same
+        """The call of C gives a view of a copy. For a contiguous view it gives another view of the same
         bytes."""
         len(subject.shape)
         made = CONTIGUOUS(subject, TO_READ, b"C")
@@ -218,7 +218,7 @@ class World:
         return answer(subject, other)
 
     def do_hash(self, handle, subject):
-        """The bytes that are hashed, where there is a hash. Of the hash all that can be said is that those
+        """The bytes that are hashed, if there is a hash. Of the hash all that can be said is that those
         of equal bytes are equal, which is compared."""
         found = hash(subject)
         if handle not in self.hashed:
@@ -258,7 +258,7 @@ class World:
         return subject.hex(*groups)
 
     def do_call(self, handle, subject, method, *arguments):
-        """A method by its name, or an operator by that of the function which does the same."""
+        """Calls a method by its name, or an operator by the name of the function that does the same."""
         return SUMS[method](subject, *arguments) if method in SUMS else getattr(subject, method)(*arguments)
 
     def property(self, handle, subject, name):
@@ -286,7 +286,7 @@ class World:
 
 
 class AsWritten(World):
-    """Python's objects, but for three differences of what is written, which `docs/reference/differences.md` names: a
+    """Python's objects, except for three differences in what is written, which `docs/reference/differences.md` names: a
     slice of a bytearray, and what a method of one gives, is `bytes`; the parts of a partition are a list of
     such; and a view is shown by its number among those of its exporter."""
 
@@ -307,7 +307,7 @@ class AsWritten(World):
 
 
 def as_bytes(found):
-    """What stands for bytes, which a view does where it separates two parts, as these."""
+    """A bytearray or a view as bytes, and any other value as it is. So a view that separates two parts stands for its bytes."""
     return bytes(found) if isinstance(found, (bytearray, memoryview)) else found
 
 
@@ -323,7 +323,7 @@ def written(found):
 
 
 def without_address(shown):
-    """A text that has an address, which is another one in each run."""
+    """A text with `..` in place of an address, which is another one in each run."""
     return re.sub("(?<= at )0x[0-9a-f]+", "..", shown)
 
 

@@ -2,13 +2,13 @@
 """Writes the cases of `cases/orders`: bytes of views row by row and in column order, their strides and contiguity.
 
     python3 tools/python_orders.py            writes them
-    python3 tools/python_orders.py --check    writes nothing, and ends with 1 where a file would change
+    python3 tools/python_orders.py --check    writes nothing, and ends with 1 if a file would change
 
-There is a case for each number of dimensions up to three, of items of one byte and of two. In each, a view is cast to every
-shape with entries from 0 to 3 row-major (`cast`) and in column order (`castf`), and of both, and of three slices along the
-first dimension, all bytes are asked for in each order, and all that is shown.
+There is a case for each number of dimensions up to three, and for items of one byte and of two. In each, a view is cast to every
+shape with entries from 0 to 3, row-major (`cast`) and in column order (`castf`). Of both casts, and of three slices along the
+first dimension, all bytes are asked for in each order, and everything that is shown.
 
-Python says it all. `_testbuffer`, which comes with its tests, makes an array in column order (`ND_FORTRAN`), as no method of
+All of this comes from Python. `_testbuffer`, which comes with its tests, makes an array in column order (`ND_FORTRAN`), as no method of
 Python's does; a shape with an entry of 0 is refused as `memoryview.cast` refuses it.
 """
 import itertools
@@ -39,7 +39,7 @@ class Session:
         self.replies.append(reply)
 
     def makes(self, line):
-        """A line that makes a view; the name of that."""
+        """Adds a line that makes a view, and gives the view's name."""
         name = f"h{self.handles}"
         self.handles += 1
         self.says(line, name)
@@ -60,7 +60,7 @@ def column_view(content, code, size, shape):
 
 
 def cast(session, size, shape):
-    """Both casts of as many bytes as the shape has."""
+    """Casts as many bytes as the shape has, in both orders."""
     code, content = CODES[size], bytes(range(1, size * max(math.prod(shape), 1) + 1))
     own = session.makes(f"new bytes x{content.hex()}")
     flat = session.makes(f"view {own}")

@@ -2,13 +2,13 @@
 """Writes the cases of `cases/queues`: bytearrays that are used as queues, with the replies of Python's own objects.
 
     python3 tools/python_queues.py            writes them
-    python3 tools/python_queues.py --check    writes nothing, and ends with 1 where a file would change
+    python3 tools/python_queues.py --check    writes nothing, and ends with 1 if a file would change
 
-Each case has 500 commands, which are drawn from a fixed seed: bytes are added at the end and before the first, and
-taken away at the front one by one, by slices in both directions and by their value; views live and are released in
-between; copies are made, bytearrays are made anew, and vectors of such bytes are taken out. `compare.py` carries the
-lines out on Python's objects. Where no vector is in a case, they are carried out once more with nothing of ours, and
-that another reply comes stops the script.
+Each case has 500 commands, which are drawn from a fixed seed. Bytes are added at the end and before the first byte. They
+are taken away at the front: one by one, by slices in both directions, and by their value. Views live and are released in
+between. Copies are made, bytearrays are made anew, and vectors of such bytes are taken out. `compare.py` carries the
+lines out on Python's objects. If a case has no vector, they are carried out once more on Python's objects alone, and the
+script stops if another reply comes.
 """
 import pathlib
 import random
@@ -25,21 +25,21 @@ COUNT, LINES, SEED = 20, 500, 47
 
 
 class Queue:
-    """Lines that are drawn, and what they did."""
+    """Draws lines, and carries them out."""
 
     def __init__(self, number):
         self.random = random.Random(SEED * 1000 + number)
         self.has_vectors = number % 4 == 0
         self.python = Ours()
-        # nothing of ours, where no vector is drawn
+        # Python's objects alone, if no vector is drawn
         self.plain = self.python if self.has_vectors else AsWritten()
         self.lines, self.replies = [], []
         # the handles of the bytearrays, and those of unreleased views
         self.queues, self.live = [], []
 
     def ask(self, line):
-        """Carries a line out. One on which we differ, since it is refused while a view lives and asks for no other
-        length in Python, changes nothing and isn't kept."""
+        """Carries a line out. We differ on a line that is refused here while a view lives, though it asks for no other
+        length in Python. Such a line changes nothing and isn't kept."""
         reply = self.python.reply(line)
         if self.plain is self.python or self.plain.reply(line) == reply:
             self.lines.append(line)
@@ -54,7 +54,7 @@ class Queue:
         return "x" + self.random.randbytes(self.random.choice((0, 1, 2, 5, 17, 60))).hex()
 
     def front(self, size):
-        """A slice of the first bytes, in one of the directions."""
+        """A slice of the first bytes, in one of the two directions."""
         n = self.random.choice((0, 1, 2, size // 3, size // 2, max(size - 1, 0), size))
         if not n:
             return self.random.choice(("0:0:None", "3:1:None", "None:0:1"))

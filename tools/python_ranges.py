@@ -2,7 +2,7 @@
 """Writes what the program `golden_ranges` has to write: the ranges of walks that join the dimensions of the tail.
 
     python3 tools/python_ranges.py            writes it
-    python3 tools/python_ranges.py --check    writes nothing, and ends with 1 where the file would change
+    python3 tools/python_ranges.py --check    writes nothing, and ends with 1 if the file would change
 
 The table has every shape of up to four dimensions with entries from 0 to 3, over items of two bytes that lie one after
 the other, row-major. A shape with dimensions is sliced by the steps 1, 2 and -1 along the first. Each line has the shape,
@@ -11,7 +11,7 @@ the step and the ranges.
 The ranges are computed from the words. The tail is the greatest t for which each of the last t dimensions that has more
 than one entry has as stride the item size times the product of the entries after it: every t is tried. There is one range
 for each index of the dimensions before the tail, and it is that index's whole block: its place is the sum of index times
-stride. With an entry of 0 there is none. A shape with an entry of 0 after the first has no descriptor that is valid, and
+stride. With an entry of 0 there is no range. A shape with an entry of 0 after the first has no descriptor that is valid, and
 is refused.
 """
 import itertools
@@ -29,7 +29,7 @@ STEPS = [1, 2, -1]
 
 
 def strides_of(shape):
-    """The strides of items that lie one after the other, an entry of 0 counted as 1."""
+    """The strides of items that lie one after the other. An entry of 0 counts as 1."""
     return [SIZE * math.prod(max(n, 1) for n in shape[k + 1 :]) for k in range(len(shape))]
 
 

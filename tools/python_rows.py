@@ -2,15 +2,15 @@
 """Writes the cases of `cases/`, whose answers come from Python's own objects.
 
     python3 tools/python_rows.py            writes them
-    python3 tools/python_rows.py --check    writes nothing, and ends with 1 where a file would change
+    python3 tools/python_rows.py --check    writes nothing, and ends with 1 if a file would change
 
 A case is an input, a file without an ending, and beside it what the program writes for it, with the
 ending `.stdout`. In `cases/python` the replies are Python's. In `cases/differences` they are this
 program's own, written down here by hand, and `cases/differences.txt` has Python's beside them
-wherever they differ; that a difference is said and there is none, or the other way round, stops the
-script. The name of a file is that of its case, with `-` in place of blanks and signs.
-`python_objects.py` carries the lines out. Made with CPython 3.11, and with nothing random: the
-drawn lines come from a fixed seed.
+wherever they differ. The script stops if a difference is said and there is none, or the other way
+round. The name of a file is that of its case, with `-` in place of blanks and signs.
+`python_objects.py` carries the lines out. The cases are made with CPython 3.11, and nothing is random:
+the drawn lines come from a fixed seed.
 """
 import pathlib
 import random
@@ -1747,7 +1747,7 @@ bytes h0
 ]
 
 
-# Each code to which a view is cast, alone and behind `@`.
+# Each code that a view is cast to, alone and behind `@`.
 NATIVE_FORMATS = [sign + code for code in NATIVE_CODES for sign in ("", "@")]
 
 
@@ -1821,7 +1821,7 @@ def drawn_slices(draw):
 
 
 def drawn_writes(draw):
-    """Items read and written through a bytearray, a view, and a slice of that."""
+    """Items that are read and written through a bytearray, a view, and a slice of the view."""
     lines = ["new bytearray x303132333435363738", "view h0", f"get h1 {draw.below(3)}:None:{1 + draw.below(2)}", "get h2 None:None:-1"]
     for _ in range(18):
         handle, place = draw.below(4), draw.below(13) - 6
@@ -1831,7 +1831,7 @@ def drawn_writes(draw):
 
 
 def drawn_shapes(draw):
-    """Items read and written by tuples through slices of views of several dimensions."""
+    """Items that are read and written by tuples, through slices of views of several dimensions."""
     shape = draw.one_of([[2, 3, 2], [3, 4], [2, 2, 3], [4, 3], [1, 2, 6]])
     lines = [f"new bytearray x{bytes(range(97, 97 + 12)).hex()}", "view h0", f"cast h1 'B' {shape}".replace(", ", ",")]
     made = 2
@@ -2371,7 +2371,7 @@ def drawn_edits(draw):
                     f"insert h0 {draw.below(19) - 9} {draw.below(256)}",
                     f"pop h0 {draw.below(4)}",
                     f"del h0 {sliced()}",
-                    # nothing is assigned to a slice with a step: that is a difference
+                    # nothing is assigned to a slice with a step, since that is a difference
                     f"set h0 {part()}:{part()}:1 {source()}",
                     f"set h0 {sliced()} {draw.one_of(['x61', 'x6263', 'x646566', 'h1'])}",
                     f"imul h0 {1 + draw.below(2)}",
@@ -2874,7 +2874,7 @@ NUMBER_CODES = "".join(code for code in NATIVE_CODES if code not in "c?")
 
 
 def by_code(codes, content):
-    """The lines that make a view of some content by each code, and all pairs of these compared."""
+    """The lines that make a view of some content by each code, and that compare all pairs of these."""
     lines = []
     for at, code in enumerate(codes):
         lines += [f"new bytes x{content(code).hex()}", f"view h{3 * at}", f"cast h{3 * at + 1} '{code}'"]
@@ -4541,7 +4541,7 @@ def drawn_iterators(draw):
     """Iterators of a bytearray that is edited, of bytes, and of views that are written."""
     lines = ["new bytearray x000102030405", "new bytes x6162636465", "new bytearray x707172737475", "view h2", "get h3 None:None:-2"]
     lines += [f"iter h{of}" for of in (3, 4, 1, 0, 0)]
-    # the last handle, and the first of an iterator that isn't of a view
+    # the last handle, and the first handle of an iterator that doesn't go over a view
     last, first = 9, 7
     for turn in range(110):
         own = first + draw.below(last + 1 - first)
@@ -4563,7 +4563,7 @@ def drawn_iterators(draw):
             )
         )
         if turn % 15 == 14:
-            # in place of those that are exhausted
+            # these take the place of iterators that are exhausted
             last += 1
             lines += ["iter h0", f"setstate h{last} {draw.below(3)}", "bytes h0"]
     return "\n".join(lines)
@@ -4572,7 +4572,7 @@ def drawn_iterators(draw):
 PYTHON += [Case(f"iterators, drawn ({seed})", drawn_iterators(Draw(seed))) for seed in (22, 23, 24, 25)]
 
 def asked(*rows):
-    """Lines that make bytes of each content, and then ask each of its lines, in which `h0` stands for them."""
+    """Lines that make bytes of each content, and then ask the lines of this content, in which `h0` stands for the bytes."""
     lines = []
     for number, (content, *asks) in enumerate(rows):
         lines.append(f"new bytes x{content.hex()}")
@@ -4743,7 +4743,7 @@ compare h21 == h22
 ]
 ASSIGNED = [assigned(Draw(12 + number), step, others) for others in (False, True) for number, step in enumerate(STEPS)]
 
-# Beside each line our reply, written by hand; Python's is put beside it where it differs.
+# Beside each line stands our reply, written by hand. Python's reply is put beside it if it differs.
 DIFFERENCES = [
     Case(
         "a number that an item doesn't take is of a wrong kind",
@@ -6281,7 +6281,7 @@ def python_cases():
 
 
 def difference_cases():
-    """Each case with its lines and our replies, and with Python's where they differ."""
+    """Each case with its lines and our replies, and with Python's replies if they differ."""
     for case in DIFFERENCES:
         rows = [tuple(part.strip() for part in line.split("  ") if part.strip()) for line in case.lines]
         python = World().run([row[0] for row in rows])
@@ -6292,7 +6292,7 @@ def difference_cases():
 
 
 def in_columns(rows):
-    """The rows, each as one line of columns."""
+    """The rows, of which each is one line of columns."""
     widths = [max((len(row[at]) for row in rows if len(row) > at + 1), default=0) for at in (0, 1)]
     return ["   ".join(part.ljust(width) for part, width in zip(row, [*widths, 0])).rstrip() for row in rows]
 

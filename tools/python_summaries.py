@@ -1,11 +1,11 @@
 #!/usr/bin/env python3
-"""Writes the cases of `cases/summaries`: what `make` with a number has to write, by Python's own objects.
+"""Writes the cases of `cases/summaries`: what `make` with a number has to write, computed by Python's own objects.
 
     python3 tools/python_summaries.py            writes them
-    python3 tools/python_summaries.py --check    writes nothing, and ends with 1 where a file would change
+    python3 tools/python_summaries.py --check    writes nothing, and ends with 1 if a file would change
 
 The numbers are those from 1 to 64, the ends of what `make` takes, and ten that are drawn from a fixed seed. A case has
-no input, and its words in a file with the ending `.args`.
+no input. Its words are in a file with the ending `.args`.
 """
 import pathlib
 import random
@@ -20,7 +20,7 @@ MOST = 4096
 
 
 class Counted:
-    """Objects of Python by the handles that commands would give them, and how many commands there were, and refusals."""
+    """Objects of Python by the handles that commands would give them, and how many commands and refusals there were."""
 
     def __init__(self):
         self.objects = []
@@ -38,7 +38,7 @@ class Counted:
 
 
 def summary(number):
-    """The script of a number, carried out: for each k below it a byte is added; after the fourth, the eighth and so on
+    """The script of a number, carried out. For each k below the number a byte is added. After the fourth, the eighth and so on
     the first is popped; after the sixteenth and so on a view and its reverse are read while a byte is added."""
     run = Counted()
     run.make(bytearray, b"")

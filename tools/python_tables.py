@@ -1,17 +1,16 @@
 #!/usr/bin/env python3
-"""Writes the cases of `cases/tables`: what `table` has to write of formats and bytes, by Python's own `struct`.
+"""Writes the cases of `cases/tables`: what `table` has to write for formats and bytes, computed by Python's own `struct`.
 
     python3 tools/python_tables.py            writes them
-    python3 tools/python_tables.py --check    writes nothing, and ends with 1 where a file would change
+    python3 tools/python_tables.py --check    writes nothing, and ends with 1 if a file would change
 
 Formats and bytes are drawn from a fixed seed: every code that Python's `struct` shares with the program, every prefix,
 counts, 0 among them, text and Pascal strings, and pads. A case has the bytes of a table as its input, and its words in a file
-with the ending `.args`. `tables-N` has every record of a format, and `queries-N` those of which a field compares so, with
-each operator in turn; in each sixth there are too few bytes for a last record.
+with the ending `.args`. `tables-N` has every record of a format. `queries-N` has the records in which a field compares as
+asked, with each operator in turn. In each sixth case there are too few bytes for a last record.
 
-The rest are words that are no table. Where Python takes what the program refuses, or the other way round, that is named
-in `DIFFERENT`, and the script stops where it is no difference; of every other such format Python has to say that it is
-none.
+The other cases have words that the program refuses. If Python takes what the program refuses, or the other way round, this
+is named in `DIFFERENT`, and the script stops if it is no difference. Python has to refuse every other such format.
 """
 import operator
 import pathlib
@@ -41,7 +40,7 @@ USAGE, BAD_DATA = 6, 9
 WORD = 2**64
 LARGE = 2**127
 
-# What is drawn most often, beside any byte: the ends of what a byte and a sign can say.
+# The bytes that are drawn most often, beside any byte: the ends of what a byte can say, with and without a sign.
 BYTES = [0x00, 0x01, 0x7F, 0x80, 0xFF]
 
 
@@ -74,7 +73,7 @@ def row_line(row):
 
 
 def answer(text, given, chooses=lambda row: True):
-    """What is written of a table, and the status."""
+    """What is written for a table, and the status."""
     size = struct.calcsize(text)
     if len(given) % size:
         return f"{len(given) % size} bytes left over\n".encode(), BAD_DATA
@@ -82,7 +81,7 @@ def answer(text, given, chooses=lambda row: True):
 
 
 def given_of(draw, text, number):
-    """The bytes of some records, and of each sixth such input too few for one more, where a record has several."""
+    """The bytes of some records. Each sixth input also has some bytes of one more, if a record has several."""
     size = struct.calcsize(text)
     given = bytes_of(draw, size * draw.randrange(1, 12))
     return given + bytes_of(draw, draw.randrange(1, size)) if number % 6 == 5 and size > 1 else given
@@ -97,7 +96,7 @@ def case(name, words, given, written, status):
 
 
 def tables():
-    """Every record of drawn formats, each code being wanted three times."""
+    """Every record of drawn formats, in which each code is wanted three times."""
     draw = random.Random(57)
     for number, wanted in enumerate(("xc?sp" + NUMBERS + NATIVE) * 3):
         text = format_of(draw, wanted)
@@ -106,12 +105,12 @@ def tables():
 
 
 def numbered(value):
-    """Whether a value is in an order with a number."""
+    """Whether a value has an order with a number."""
     return isinstance(value, int)
 
 
 def queries():
-    """Records of drawn formats that are chosen, each operator being asked of each code."""
+    """Chosen records of drawn formats, where each operator is asked of each code."""
     draw = random.Random(58)
     number = 0
     for spelled, compare in OPERATORS.items():
@@ -131,7 +130,7 @@ def queries():
                     break
             field = draw.choice(fields)
             found = [row[field] for row in rows if numbered(row[field])]
-            # (a number that stands there, or is one more or less, so that each operator tells some apart)
+            # (the number stands there, or is one more or one less, so that each operator tells some records apart)
             asked = int(draw.choice(found)) + draw.choice([-1, 0, 0, 1]) if found else 97
             words = ["table", text, str(field), spelled, str(asked)]
             written = answer(text, given, lambda row: compare(row[field], asked))
@@ -139,7 +138,7 @@ def queries():
             number += 1
 
 
-# Words behind `table` that are none, by what is wrong with them, where Python's `struct` says the same of the format.
+# Words behind `table` that are refused, by what is wrong with them. Python's `struct` says the same of their formats.
 REFUSED = {
     "no-format": [],
     "a-code-that-is-none": ["k"],
@@ -154,7 +153,7 @@ REFUSED = {
     "a-letter-past-ascii": ["\u00e9"],
 }
 
-# Words whose format has size 0, of which Python's `struct` makes no iterator either.
+# Words whose format has size 0. Python's `struct` makes no iterator of it either.
 EMPTY = {
     "a-text-of-no-byte": ["0s"],
     "an-empty-word": [""],
@@ -163,7 +162,7 @@ EMPTY = {
     "pads-of-no-byte": ["0x"],
 }
 
-# Words that Python's `struct` has no say in, beside the format that they begin with.
+# Words that Python's `struct` can't judge, beyond the format that they begin with.
 ASKED = {
     "a-field-that-is-not-there": ["<BH", "2", "==", "1"],
     "a-field-of-pads": ["4x", "0", "==", "1"],
@@ -196,7 +195,7 @@ ASKED = {
     "a-further-word": ["<BH", "1", "==", "1", "1"],
 }
 
-# Formats of which Python's `struct` says otherwise: whether it takes them.
+# Formats on which Python's `struct` differs, with whether it takes them.
 DIFFERENT = {
     "a-blank-between-codes": ("B B", True),
     "a-code-of-half-a-word-with-a-fraction": ("e", True),
@@ -245,7 +244,7 @@ def is_unpacked(text, given):
 
 
 def refused(words):
-    """Whether Python's `struct` has no records of a format."""
+    """Whether Python's `struct` refuses to read records of a format."""
     if not words or not words[0].isascii() or not is_taken(words[0]):
         return True
     try:
@@ -260,7 +259,7 @@ def usage(name, words):
 
 
 def words():
-    """Words that are no table, and tables by hand."""
+    """Words that are refused, and tables that are written by hand."""
     for name, behind in (REFUSED | EMPTY).items():
         assert refused(behind), f"Python takes {behind}"
         yield from usage(name, behind)
@@ -276,7 +275,7 @@ def words():
     assert not is_taken("u")
     given = bytes([65, 0, 0, 0])
     yield from case("a-wide-character", ["table", "u"], given, row_line(struct.unpack("i", given)), 0)
-    # a Pascal string of length 0, which Python's `struct` packs, and stops at where it unpacks one
+    # a Pascal string of length 0, which Python's `struct` packs, but stops at when it unpacks one
     assert struct.pack("B0p", 7, b"a") == b"\7" and not is_unpacked("B0p", b"\7")
     yield from case("a-pascal-string-of-length-0", ["table", "B0p"], b"\7", row_line((7, b"")), 0)
 

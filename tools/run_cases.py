@@ -1,26 +1,27 @@
 #!/usr/bin/env python3
-"""Runs the cases on a program that was built, and ends with status 1 where one differs.
+"""Runs the cases on a program that was built, and ends with status 1 if one differs.
 
     python3 tools/run_cases.py [PROGRAM [FOLDER..]]
-    python3 tools/run_cases.py --unproved          all but the examples, on what `rt try` builds without proof
-    python3 tools/run_cases.py --unproved examples the examples and the input that is stored beside the program, so too
+    python3 tools/run_cases.py --unproved          runs all but the examples, on what `rt try` builds without proof
+    python3 tools/run_cases.py --unproved examples runs the examples, and the input that is stored beside the program, in the same way
 
-PROGRAM is what the gate built, `crates/pybuf_program/out/pybuf_program`, where none is named. The FOLDERs are `examples` and every
-folder of `cases/`; where none is named, the lines of `cases/no-commands.txt` and `cases/no-operations.txt` and the inputs
+PROGRAM is what the gate built, `crates/pybuf_program/out/pybuf_program`, if none is named. The FOLDERs are `examples` and every
+folder of `cases/`, if none is named. Then the lines of `cases/no-commands.txt` and `cases/no-operations.txt` and the inputs
 that are made here are run too. Without proof the examples run on the program itself, and all others on its one call,
-`serve`: `tools/unproved.py` says why. Those that want little memory to be there are skipped then.
+`serve`. `tools/unproved.py` says why. Cases that need memory to be short are skipped then.
 
-A case is a file NAME, which is the input, with what has to be written for it beside it, NAME.stdout. NAME.args has the
-words behind the program's name, a word a line, none where it isn't there, and NAME.status the status that has to come,
-0 where it isn't there. NAME.stderr has what has to come on standard error; where it isn't there, `tools/complaints.py` says it. Each line of
-`cases/no-commands.txt` is an input of its own, and so is each of `cases/no-operations.txt`, of the words `array H`.
+A case is a file NAME, which is the input. Beside it, NAME.stdout has what has to be written. NAME.args has the words behind
+the program's name, with a word in each line. If it isn't there, there are none. NAME.status has the status that has to come.
+If it isn't there, this is 0. NAME.stderr has what has to come on standard error. If it isn't there, `tools/complaints.py` says
+what has to come. Each line of `cases/no-commands.txt` is an input of its own, and so is each line of `cases/no-operations.txt`,
+which is read with the words `array H`.
 
-Of `share` the order of the sessions among each other is open. So where an input has lines of more than one, what is written
-has to be what one thread gets in the order that stands there (`tools/check_sessions.py`), and what is kept has to be so too.
+In `share`, the order between the sessions is open. So if an input has lines of more than one session, what is written has to
+be what a single thread gets in the order that stands there (`tools/check_sessions.py`). The stored output has to be so too.
 Some such inputs are drawn.
 
-As many cases run side by side as there are processors. The last line counts them. A folder that isn't there or has no case, and a file that neither
-is a case nor belongs to one nor is a README.md, fail too.
+As many cases run side by side as there are processors. The last line counts them. A folder fails that isn't there or has no
+case. So does a file that isn't a case, belongs to none, and isn't a README.md.
 """
 
 import ast
@@ -43,36 +44,36 @@ from unproved import Ran
 
 ROOT = pathlib.Path(__file__).resolve().parent.parent
 PROGRAM = ROOT / "crates/pybuf_program/out/pybuf_program"
-# Files of lines that are wrong, and the words with which each of them is read.
+# Files of wrong lines, and the words with which each file is read.
 WRONG_LINES = {"no-commands": (), "no-operations": (b"array", b"H")}
 PAGE = "README.md"
 SECONDS = 10
-# How many bytes an input can have.
+# The number of bytes that an input may have.
 LIMIT = 1_048_576
-# Many times what the program needs for any input here, and less than three dozen lists of a million places.
+# This is many times what the program needs for any input here, and less than three dozen lists of a million places take.
 ADDRESS_SPACE = 256 * 1024 * 1024
 DONE, BAD_LINE, NO_MEMORY, USAGE, TOO_LONG, BAD_DATA = 0, 2, 3, 6, 7, 9
-# Commands of which the third finds no memory, and such of which the reply to the third finds none, and no others.
+# In both inputs only the third command runs out of memory. In the first it finds none, in the second its reply does.
 GREATER = b"new bytearray x61\nget h0 0\ncall h0 mul 60000000000\nget h0 0\n"
 LONGER = b"new bytearray 15000000\nget h0 0\nbytes h0\nget h0 0\n"
 
 # `address_space` is how many bytes the process may map, or None for no such limit.
-# `written` is None where only the checker of sessions says what may come.
-# `complaint` is what has to come on standard error, or None where tools/complaints.py says it.
+# `written` is None if only the checker of sessions says what may come.
+# `complaint` is what has to come on standard error, or None if tools/complaints.py says it.
 Case = collections.namedtuple("Case", "name given written status words address_space complaint", defaults=((), None, None))
 # `faults` are what is wrong with the folder itself.
 Folder = collections.namedtuple("Folder", "name cases faults")
 
 
 def shown(line):
-    """A line as Python writes its bytes, the front alone of a long one."""
+    """A line as Python writes its bytes. Of a long line only the front is shown."""
     if line is None:
         return "nothing"
     return repr(line) if len(line) <= 100 else f"{line[:100]!r} and {len(line) - 100} bytes more"
 
 
 def first_difference(wanted, came):
-    """The first line that differs, with the line feeds, since the last one may be missing."""
+    """The first line that differs. Line feeds are shown, since the last one may be missing."""
     lines = (re.findall(rb"[^\n]*\n|[^\n]+", text) for text in (wanted, came))
     for number, (expected, found) in enumerate(itertools.zip_longest(*lines), 1):
         if expected != found:
@@ -81,18 +82,18 @@ def first_difference(wanted, came):
 
 
 def has_open_order(case):
-    """Whether it is an input with lines of several sessions, so that their order is open."""
+    """Whether an input has lines of several sessions, so that their order is open."""
     sessions = {line.split(b" ")[0] for line in case.given.split(b"\n")[1:] if line}
     return list(case.words) == [b"share"] and case.status == DONE and len(sessions) > 1
 
 
 def difference(program, case, written):
-    """What differs of what was written, as a text, or None."""
+    """What differs in what was written, as a text, or None."""
     if not has_open_order(case):
         return None if written is None else first_difference(case.written, written)
     given = case.given.removesuffix(b"\n").split(b"\n")
     for what, text in (("what is written", written), ("what is kept", case.written)):
-        # (what lacks its last line feed has a last line that doesn't end)
+        # (if the last line feed is missing, the last line doesn't end)
         fault = text is not None and check_sessions.fault_of(program, given, text.split(b"\n")[:-1])
         if fault:
             return f"{what} is not what one thread gets: {fault}"
@@ -118,7 +119,7 @@ def run(program, case):
 
 
 def differences(program, case, ran):
-    """What differs of what came of a case, as texts."""
+    """What differs in the result of a case, as texts."""
     if ran.fault:
         return [ran.fault]
     found = [difference(program, case, ran.written)]
@@ -156,14 +157,14 @@ def folder_of(path):
             continue
         given, written = ((path / it).read_bytes() for it in (name, f"{name}.stdout"))
         told = (path / f"{name}.stderr").read_bytes() if f"{name}.stderr" in files else None
-        # (the last line feed ends a word, and begins none)
+        # (the last line feed ends a word, and doesn't begin one)
         lines = words.split(b"\n")
         cases.append(Case(name, given, written, int(status), lines if lines[-1] else lines[:-1], None, told))
     return Folder(label, cases, faults)
 
 
 def wrong_lines(name, words):
-    """The lines of a file, each alone: none is a command, or with these words an operation."""
+    """The lines of a file, of which each is an input of its own. None is a command, or an operation if these words are given."""
     path, cases, faults = ROOT / f"cases/{name}.txt", [], []
     lines = path.read_text().split("\n") if path.is_file() else []
     for number, text in enumerate(lines, 1):
@@ -188,15 +189,15 @@ def long_words():
     for name, word, (written, status) in [
         # zeros in front of a number don't count, however many there are
         ("a 2 behind a million zeros", b"0" * 1_000_000 + b"2", (b"h0\n99\n", DONE)),
-        # numbers end at 128 bits
+        # a number has at most 128 bits
         ("a number of a million digits", b"9" * 1_000_000, bad),
         ("a text of a million bytes", b"'" + b"a" * 1_000_000 + b"'", refused),
         ("a million digits of bytes", b"x" + b"aB" * 500_000, refused),
         ("a tuple of half a million numbers", b"(1" + b",1" * 500_000 + b")", refused),
-        # a comma between quotes parts nothing
+        # a comma between quotes separates nothing
         ("a list of many texts with commas", b"[1" + b",'a,b'" * 160_000 + b"]", refused),
         ("a tuple of many slices", b"(1:1:1" + b",1:1:1" * 160_000 + b")", refused),
-        # a tuple of slices has no other part, which shows at the last one alone
+        # a tuple of slices has no other part, and here only the last part shows that this isn't one
         ("a number behind many slices", b"(1:1:1" + b",1:1:1" * 160_000 + b",1)", bad),
         # no part of a slice or of a tuple may be empty
         ("a million colons", b"1" + b":" * 1_000_000, bad),
@@ -206,10 +207,10 @@ def long_words():
 
 
 def drawn_sessions():
-    """Inputs of sessions that are drawn, the same ones each time."""
+    """Inputs of sessions that are drawn. Each run draws the same ones."""
     inputs = check_sessions.drawn(16, 17, 16, 200) + check_sessions.scripts(10, 50)
     given = (b"".join(line + b"\n" for line in lines) for lines in inputs)
-    # (one with lines of no session or of one alone is no such case)
+    # (an input with lines of no session, or of only one, is no such case)
     cases = [Case(f"input {number}", it, None, DONE, [b"share"]) for number, it in enumerate(given, 1)]
     return Folder("drawn sessions", [it for it in cases if has_open_order(it)], [])
 
@@ -229,19 +230,19 @@ def large_inputs():
     viewed = b"view\nvslice 0 None:None:-1\nvslice 1 1:None:-9223372036854775808\nvget 2 -1\nlen\nappend 0\n"
     released = b"release 0\nrelease 1\nrelease 2\npop\n"
     cases = [
-        # As many lines as an input can hold, each with its reply; more than 64 KiB are written in several pieces.
+        # There are as many lines as an input can hold, each with its reply. More than 64 KiB are written in several pieces.
         Case("as many lines as an input can hold", lines, b"h0\n" + count * b"0\n" + b"h1\n", DONE),
-        # Of an input that is too long nothing is run, though each of its whole lines is a command.
+        # If an input is too long, nothing of it is run, though each of its whole lines is a command.
         Case("as many lines, and one byte more", lines + b"\n", b"", TOO_LONG),
-        # The longest input is read, and only then its one line, which lacks its line feed, is no command.
+        # The longest input is read. Only then is its one line, which lacks its line feed, found to be no command.
         Case("the longest input", LIMIT * b"a", b"line 1 is not a command\n", BAD_LINE),
-        # One byte more is too long, whatever the lines are.
+        # An input with one byte more is too long, whatever its lines are.
         Case("the longest input, and one byte more", (LIMIT + 1) * b"a", b"", TOO_LONG),
-        # So it is of sessions, of which none begins.
+        # The same holds for an input of sessions: none of them begins.
         Case("the longest input of sessions", shared, b"0: len own -> 0\n" * asked + b"calls %d\nbytes b''\n" % asked, DONE, [b"share"]),
         Case("the longest input of sessions, and one byte more", shared + b"\n", b"", TOO_LONG, [b"share"]),
         Case("the longest line of sessions", LIMIT * b"a", b"line 1 is not a command\n", BAD_LINE, [b"share"]),
-        # The longest input of operations: each is answered, and their replies are written in several pieces.
+        # In the longest input of operations each is answered, and the replies are written in several pieces.
         Case("as many operations as an input can hold", LIMIT // 4 * b"len\n", LIMIT // 4 * b"0\n", DONE, [b"array", b"b"]),
         Case("the longest input of operations, and one byte more", LIMIT // 4 * b"len\n" + b"\n", b"", TOO_LONG, [b"array", b"b"]),
         Case(
@@ -260,7 +261,7 @@ def large_inputs():
         # The byte that is written through the first view is read through the last. A view that kept a list of its
         # places would need more memory than there is.
         Case("ten thousand views of a million bytes", views, handles + b"ok\n7\n", DONE, (), ADDRESS_SPACE),
-        # That there is no more memory than that, and that the want of it has a status of its own.
+        # This shows that there is no more memory than that, and that running out of it has a status of its own.
         Case("more bytes than there is memory for", b"new bytearray 1000000000\n", b"", NO_MEMORY, (), ADDRESS_SPACE),
         # What was replied before is written, whether the command finds no memory or its reply doesn't: each of these
         # bytes is four in the reply. (A quarter of that memory, which is sooner used up.)
@@ -271,7 +272,7 @@ def large_inputs():
 
 
 def folders(named):
-    """The folders that are named, or all there are."""
+    """The folders that are named, or all folders."""
     if named:
         return [folder_of(pathlib.Path(name).resolve()) for name in named]
     kept = sorted(path for path in (ROOT / "cases").glob("*") if path.is_dir())
@@ -304,7 +305,7 @@ class Replays:
 
 
 def run_unproved(chosen, is_program):
-    """Runs the cases of folders without proof: what came of each, by folders."""
+    """Runs the cases of folders without proof, and gives what came of each, by folders."""
     is_told = lambda case: case.written is None or has_open_order(case)
     cases = [case for folder in chosen for case in folder.cases]
     ran = unproved.tried(cases, is_told) if is_program else unproved.served(cases, is_told)
@@ -315,7 +316,7 @@ def run_unproved(chosen, is_program):
         for case, ran in zip(folder.cases, answers):
             if has_open_order(case) and not ran.fault:
                 differences(None, case, ran)
-                # (what is kept is replayed though what is written differs)
+                # (the stored output is replayed even if what is written differs)
                 difference(None, case, None)
     if replays.cases:
         replays.came = dict(zip(replays.cases, unproved.served([*replays.cases.values()], is_told)))
@@ -323,7 +324,7 @@ def run_unproved(chosen, is_program):
 
 
 def told(folder, results):
-    """Prints what differs in a folder, and tells how many cases passed and failed."""
+    """Prints what differs in a folder, and gives how many cases passed and failed."""
     differing = [(case, found) for case, found in zip(folder.cases, results) if found]
     faults = folder.faults if folder.cases or folder.faults else ["it has no case"]
     print(f"{folder.name}: {len(folder.cases)} ran, {len(differing)} differ", flush=True)

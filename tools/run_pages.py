@@ -1,10 +1,11 @@
 #!/usr/bin/env python3
-"""Follows a page to learn from in a fresh folder, and ends with status 1 where something comes out otherwise than the page says.
+"""Follows a page to learn from in a fresh folder, and ends with status 1 if something comes out otherwise than the page says.
 
     python3 tools/run_pages.py NAME      follows docs/learn/NAME.md
-    python3 tools/run_pages.py --list    the names of these pages
+    python3 tools/run_pages.py --list    prints the names of these pages
 
-The folder has a copy of `crates.txt`, `HANDLES` and `crates/`, and is taken away afterwards. In the order of the page
+The folder has a copy of `crates.txt`, `HANDLES` and `crates/`, and is taken away afterwards. The steps are taken in the order of
+the page:
 
 - a block between fences is written to the file that the line before it names, behind the word "into";
 - each command, a line `    $ ..`, is run at the top of the folder, and what it writes has to be what stands behind it.
@@ -30,7 +31,7 @@ def steps(lines):
     files = page_blocks.written(lines)
     for number, language, block in page_blocks.blocks(lines):
         if language is not None:
-            # (a block that no line names a file for is refused by tools/check_documents.py, or shows what stands elsewhere)
+            # (if no line names a file for a block, tools/check_documents.py refuses the block, or the block shows what stands elsewhere)
             if number in files:
                 yield "file", number, files[number], "".join(line + "\n" for line in block)
             continue
@@ -47,7 +48,7 @@ def steps(lines):
 
 
 def follow(name, folder):
-    """Follows a page, and says what came out otherwise; `None` where all is as the page says."""
+    """Follows a page, and says what came out otherwise. It gives `None` if everything is as the page says."""
     ran = 0
     for kind, number, what, text in steps((LEARN / f"{name}.md").read_text().split("\n")):
         if kind == "file":

@@ -7,12 +7,12 @@
     ./test --list      the names of the parts
 
 It proves nothing. Its parts are each crate of tests and each program with stored output, which `rt try` builds and runs; the
-cases and examples; what the pages show; the sections of programs, as `readelf` has them; a release; and the bindings. As many parts
-run side by side as there are processors, and memory for them. Each has a line when it ends; of one that failed, what it said
-stands below, with the command that repeats it alone. What can't be run here is skipped, and the reason said.
+cases and examples; what the pages show; the sections of programs, compared with `readelf`; a release; and the bindings. As many parts
+run side by side as there are processors, and memory for them. Each part has a line when it ends. If it failed, what it said stands
+below that line, with the command that repeats the part alone. A part that can't be run here is skipped, and the reason is said.
 
 The last line is `N passed, M failed`, or `N passed, M failed, K skipped`: of test functions, programs, cases and checks. The
-status is 1 where anything failed, 2 where a word names no part, else 0.
+status is 1 if anything failed, 2 if a word names no part, and else 0.
 
 Two parts, `file-reader` and `interpreter`, follow the pages to learn from in a fresh folder. `--built` leaves them out, as they build
 their programs anew.
@@ -31,19 +31,19 @@ sys.dont_write_bytecode = True
 from processes import started_from_here
 
 ROOT = pathlib.Path(__file__).resolve().parent.parent
-# The program that the examples run, as they do its stored input.
+# The program that the examples and its stored input run on.
 PROGRAM = "pybuf_program"
 # How much memory an `rt try` may want, and how many seconds a program or a test may take, as under `rt ci`.
 ROOM_KIB = 3_000_000
 SECONDS = "120"
-# The last line of what counts for itself, and the lines of what it skipped.
+# The last line of a part that counts its own checks, and the lines about what it skipped.
 COUNTED = re.compile(r"(\d+) passed, (\d+) failed(?:, (\d+) skipped)?")
 SKIPPED = re.compile(r"skipped: (.+)")
 SHOWN = 60
 
 
 class Result:
-    """How many tests of a part passed and failed, and how many were skipped, with the reasons; and what a reader of a failure needs."""
+    """How many tests of a part passed and failed, and how many were skipped, with the reasons. It also has what a reader of a failure needs."""
 
     def __init__(self, passed, failed, skipped=0, reasons=(), said=""):
         self.passed, self.failed, self.skipped, self.reasons, self.said = passed, failed, skipped, list(reasons), said
@@ -67,7 +67,7 @@ def said_by(words, folder=ROOT, given=b""):
 
 
 def counted(words):
-    """A part that is a command. It counts in its last line, or else is one check."""
+    """A part that is a command. Its last line counts its checks, or else the part is one check."""
 
     def run():
         status, written, complaint = said_by(words)
@@ -110,14 +110,14 @@ def stored(name, file):
 
 
 def program_part(name, size):
-    """A program, whose input, words, output and status are stored beside its sources."""
+    """A program. Its input, words, output and status are stored beside its sources."""
     words = stored(name, "args").decode().splitlines()
     folder = ROOT / "crates" / name
     data = [f"{path.relative_to(folder / 'data')}={path}" for path in sorted(folder.glob("data/**/*")) if path.is_file()]
     flags = [flag for it in data for flag in ("--data", it)]
 
     def run():
-        # (the interpreter would only run what is compiled with checks once more)
+        # (the interpreter would only run once more what is compiled with checks)
         command = ["rt", "try", "--steps", "0", "--seconds", SECONDS, *flags, "--", *words]
         _, written, complaint = said_by(command, folder, stored(name, "stdin"))
         ended = re.findall(r"^run=ended status=(\d+) ", complaint, re.MULTILINE)
@@ -137,7 +137,7 @@ def sources(crate):
 
 
 def crates():
-    """The crates, each with those that it stands on."""
+    """The crates, each with the crates that it stands on."""
     found = {}
     for line in (ROOT / "crates.txt").read_text().split("\n"):
         name, colon, uses = line.partition("#")[0].partition(":")
@@ -147,7 +147,7 @@ def crates():
 
 
 def crate_parts():
-    """The parts that `rt try` builds, the largest first, so that none of them is left to run alone at the end."""
+    """The parts that `rt try` builds. The largest comes first, so that none of them is left to run alone at the end."""
     every, sizes, parts = crates(), {}, []
     for name in every:
         sizes[name] = sum(path.stat().st_size for path in sources(name))
@@ -168,7 +168,7 @@ def crate_parts():
 
 
 def parts(built):
-    """All parts. Where everything is built, those that `rt ci` has run are left out."""
+    """All parts. If everything is built, the parts that `rt ci` has run are left out."""
     checks = [
         command_part("documents", "python3", "tools/check_documents.py"),
         command_part("items", "python3", "tools/check_items.py"),

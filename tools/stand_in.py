@@ -1,9 +1,9 @@
 #!/usr/bin/env python3
-"""Makes a stand-in for the program and the libraries, so that archives and installing can be tested where nothing is proved.
+"""Makes a stand-in for the program and the libraries, so that archives and installing can be tested even if nothing is proved.
 
     tools/stand_in.py FOLDER
 
-rt builds the real ones of proved crates alone. The stand-in has the calls of `bindings/c/pybuf.c`, and behind each of them, in place
+rt builds the real ones only from proved crates. The stand-in has the calls of `bindings/c/pybuf.c`, and behind each of them, in place
 of the proved library, a function that answers PYBUF_NO_MEMORY and does nothing. The program says that it is a stand-in, and ends
 with status 3. An archive of it is marked as such, by its name and in its file PROVED.
 """

@@ -1,7 +1,7 @@
 """What this tree is: its files, its commit, and which gate proved it. A checkout asks git. An unpacked source archive has its list of files in
 SHA256SUMS and its commit in PROVED.
 
-    python3 tools/tree.py --gate     says and keeps that `rt ci` has just proved this tree: `.ci/run` calls it
+    python3 tools/tree.py --gate     says and keeps that `rt ci` has just proved this tree, for `.ci/run`
 """
 import collections
 import hashlib
@@ -12,13 +12,13 @@ import sys
 import time
 
 ROOT = pathlib.Path(__file__).resolve().parent.parent
-# What the gate keeps: its line, and how many `rt ci` says have passed.
+# The files that the gate keeps: one has its line, and one has how many `rt ci` says have passed.
 GATE, COUNT = ROOT / "out/gate.txt", ROOT / "out/gate-count.txt"
-# What an archive adds to the files of the tree.
+# The files that an archive adds to those of the tree.
 SUMS, PROVED = "SHA256SUMS", "PROVED"
 LINE = re.compile(r"gate: proved commit ([0-9a-f]{40,64}) by (.+) on (\d{4}-\d\d-\d\d)")
 
-# `moment` is when the commit was made, in seconds; `changed` are files that differ from it.
+# `moment` is when the commit was made, in seconds. `changed` are the files that differ from it.
 Tree = collections.namedtuple("Tree", "files commit moment changed")
 # `fault` says why a tree isn't proved, or is empty.
 Gate = collections.namedtuple("Gate", "kit date result fault")
@@ -70,7 +70,7 @@ def gate(found):
 
 
 def keep_gate():
-    """Says which commit was proved, and keeps that for `tools/release`. Of a tree with other files than its commit it keeps nothing."""
+    """Says which commit was proved, and keeps that for `tools/release`. If the tree has other files than its commit, nothing is kept."""
     try:
         found = tree()
     except NoTree as fault:

@@ -1,9 +1,9 @@
 """Runs cases on what `rt try` builds without proof, for `tools/run_cases.py`. There are two ways.
 
 `tried` runs the program itself, with `rt try --cases`. That readies each case for half a second, so a thousand cases take ten
-minutes. `served` makes a program of its own, in a copy of the sources: it has the program's `src/main.rt` but for `main`, which hands
-one case after the other to the same call, `serve`, with sources and sinks in memory. So a thousand cases are run in seconds; the real
-words, input and output of the program are what `tried` shows. What a case of `tried` writes on standard error isn't told.
+minutes. `served` makes a program of its own, in a copy of the sources: it has the program's `src/main.rt` except for `main`, which hands
+one case after the other to the same call, `serve`, with sources and sinks in memory. So a thousand cases are run in seconds. The real
+words, input and output of the program are what `tried` shows. What a case of `tried` writes on standard error isn't known.
 """
 
 import collections
@@ -19,14 +19,15 @@ ROOT = pathlib.Path(__file__).resolve().parent.parent
 NAME = "cases_at_once"
 SECONDS = "300"
 TRY = ["rt", "try", "--steps", "0", "--seconds", SECONDS]
-# How many bytes of cases one run of the program serves, or one case: what ends one run ends no other.
+# How many bytes of cases one run of the program serves. A longer case has a run of its own. What ends one run ends no other.
 BATCH = 262_144
-# A case of which all is told counts so often: what it writes is told in digits, and `rt try` ends a run that writes more than a mebibyte. One
-# that reads a few thousand bytes is run alone, since what sessions write may be many times as long, and depends on their order.
+# If everything that a case writes is told, it counts so many times. It is told in digits, and `rt try` ends a run that writes more than a
+# mebibyte. Such a case that reads a few thousand bytes is run alone, since what sessions write may be many times as long, and depends on
+# their order.
 TOLD = 64
 
-# What came of a case. `written` is None where it is known to be what has to be written, and `complaint`, what came on standard error,
-# where `rt try --cases` doesn't tell it; `fault` says why nothing came.
+# What came of a case. `written` is None if it is known to be what has to be written. `complaint` is what came on standard error, and None
+# if `rt try --cases` doesn't tell it. `fault` says why nothing came.
 Ran = collections.namedtuple("Ran", "status written complaint fault", defaults=(None,))
 
 
@@ -42,7 +43,7 @@ MAIN = """fn main(rt: HostRuntime) -> ExitCode {
 }
 """
 
-# What stands in the program's `src/main.rt`, and what stands there instead where all cases are served by one call.
+# What stands in the program's `src/main.rt`, and what stands there instead if one call serves all cases.
 INSTEAD = {
     "mod data;\n": "mod data;\nmod each;\n",
     "use crate::kept::KeptSource;\n": "",
@@ -188,14 +189,14 @@ pub fn serve_all<R: Threads + Wait + Sync, I: Read, O: Write>(
 
 
 def crates_with(name):
-    """The list of crates, with one more that uses what the program does, and the writer of numbers."""
+    """The list of crates, with one more. That one uses what the program uses, and the writer of numbers."""
     lines = (ROOT / "crates.txt").read_text().rstrip("\n").split("\n")
     uses = next(line.partition(":")[2].split() for line in lines if line.partition(":")[0] == "pybuf_program")
     return "\n".join([*lines, f"{name}: {' '.join(dict.fromkeys([*uses, 'pybuf_line']))}"]) + "\n"
 
 
 def copy_sources(to):
-    """Copies the crates' sources, and nothing that only a proof reads."""
+    """Copies the crates' sources, except for what only a proof reads."""
     for folder in sorted((ROOT / "crates").iterdir()):
         if (folder / "src").is_dir():
             shutil.copytree(folder / "src", to / "crates" / folder.name / "src")
@@ -214,7 +215,7 @@ def copy_sources(to):
 
 
 def try_cases(folder, files):
-    """What `rt try --cases` gives for a folder: by the names of cases what each wrote, its complaint and its line."""
+    """What `rt try --cases` gives for a folder. By the name of each case this is what it wrote, its complaint and its line."""
     ran = subprocess.run([*TRY, "--cases", files], cwd=folder, stdin=subprocess.DEVNULL, stdout=subprocess.PIPE, stderr=subprocess.PIPE)
     written = {}
     for part in re.split(rb"^== (?=\w+\n)", ran.stdout, flags=re.MULTILINE)[1:]:
@@ -234,7 +235,7 @@ def try_cases(folder, files):
 
 
 def tried(cases, is_told):
-    """What the program itself does of each case. What is written is told where `is_told` says so, and else only whether it is right."""
+    """What the program itself does with each case. What is written is told if `is_told` says so, and else only whether it is right."""
     with tempfile.TemporaryDirectory(prefix="cases-") as room:
         for number, case in enumerate(cases):
             path = pathlib.Path(room, f"case{number}")
@@ -283,14 +284,14 @@ def batches_of(cases, is_told):
 
 
 def answer_of(line):
-    """What came of a case, by its line."""
+    """What came of a case, as its line says."""
     status, complaint, written = line.split(b" ")
     complaint = bytes.fromhex(complaint[1:].decode())
     return Ran(int(status), None if written == b"same" else bytes.fromhex(written[1:].decode()), complaint)
 
 
 def served(cases, is_told):
-    """What `serve` does of each case."""
+    """What `serve` does with each case."""
     batches, ran = batches_of(cases, is_told), []
     with tempfile.TemporaryDirectory(prefix="cases-") as room:
         room = pathlib.Path(room)

@@ -7,7 +7,7 @@
 
 The places are the header, the crate, the Python package, CITATION.cff and the names of archives on all pages.
 The newest heading of CHANGELOG.md is compared, and never written. The name of the shared library, the man pages and the archives
-take the version when they are made. The status is 1 where a place has another version, and 2 where the arguments are wrong.
+take the version when they are made. The status is 1 if a place has another version, and 2 if the arguments are wrong.
 """
 import pathlib
 import re
@@ -15,7 +15,7 @@ import sys
 
 ROOT = pathlib.Path(__file__).resolve().parent.parent
 NUMBER = r"\d+\.\d+\.\d+"
-# Of each file the patterns of what stands before the version. Each has to be found.
+# For each file the patterns of what stands before the version. Each pattern has to be found.
 PLACES = {
     "include/pybuf.h": [r'(?<=#define PYBUF_VERSION ")'],
     "bindings/rust/Cargo.toml": [r'(?<=\nname = "pybuf"\nversion = ")'],
@@ -23,7 +23,7 @@ PLACES = {
     "bindings/python/pybuf/_version.py": [r"(?<=__version__ = ')"],
     "CITATION.cff": [r"(?<=\nversion: )"],
 }
-# Of an archive the name, on any page.
+# The name of an archive, on any page.
 ARCHIVE = re.compile(rf"(?<=\bpybuf-){NUMBER}(?=[-.\w])")
 PARTS = ("MAJOR", "MINOR", "PATCH")
 
@@ -36,7 +36,7 @@ def version():
 
 
 def written(name, text, wanted):
-    """The text of a place with the version in it; None where it has no place for one."""
+    """The text of a place with the version in it. It is None if it has no place for a version."""
     for before in PLACES[name]:
         text, count = re.subn(before + NUMBER, wanted, text)
         if not count:

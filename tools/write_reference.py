@@ -1,15 +1,15 @@
 #!/usr/bin/env python3
 """Writes `docs/reference/api` from the sources: every public item with its doc comment and its contract, the laws, and the definitions.
 
-    python3 tools/write_reference.py           writes the pages anew, and takes away those that nothing stands for any more
+    python3 tools/write_reference.py           writes the pages anew, and takes away pages whose sources are gone
     python3 tools/write_reference.py --lack    names each public item without a doc comment, and ends with status 1 if there is one
 
-It reads the library crates: those that crates.txt lists with a name that begins with `pybuf`, but the program. It needs no toolchain, and
+It reads the library crates: those that crates.txt lists with a name that begins with `pybuf`, except for the program. It needs no toolchain, and
 takes a few seconds. `tools/check_documents.py` compares the stored pages with what it writes.
 
 - `README.md` has the contents, `names.md` an index of all names, `laws.md` the laws, and `definitions.md` the files of definitions.
 - Each crate has a page. An item stands there with its signature, its contract, and the laws that name it: those whose comment names it,
-  or whose statement cites a definition that its contract cites. A definition that more than `COMMON` laws cite tells nothing of any.
+  or whose statement cites a definition that its contract cites. A definition that more than `COMMON` laws cite doesn't count.
 """
 import pathlib
 import re
@@ -20,7 +20,7 @@ FOLDER = ROOT / "docs/reference/api"
 COMMON = 8
 ITEM = re.compile(r'( *)(pub )?((?:const |unsafe |extern "C" )*fn|struct|enum|trait|type|const) (\w+)')
 WORD = re.compile(r"[^\W\d]\w*")
-# A name of a definition in a clause: no field, and no module before a name.
+# A name of a definition in a clause. It is neither a field nor a module before a name.
 CITED = re.compile(r"(?<![.\w])[^\W\d]\w*(?![.\w])")
 
 
@@ -50,7 +50,7 @@ class Item:
 
 
 def block_of(lines, at, indent, kind):
-    """The lines of an item: of a function up to its body, of anything else whole."""
+    """The lines of an item. A function has them up to its body, and anything else has all of them."""
     taken, clauses = [], False
     for line in lines[at:]:
         bare = line.strip()
@@ -73,7 +73,7 @@ def block_of(lines, at, indent, kind):
 
 
 def own_part(code, kind):
-    """What is shown of a type: no private field."""
+    """The part of a type that is shown, which has no private field."""
     if kind != "struct":
         return code
     shown = [line for line in code[1:-1] if re.match(r"\s*(pub |///)", line) or line.strip() in ("", "}")]
@@ -90,7 +90,7 @@ def own_part(code, kind):
 
 
 def items_of(crate):
-    """All public items of a crate by file, whether a name of them is exported or not."""
+    """All public items of a crate by file, whether their names are exported or not."""
     found = []
     for file in sorted((ROOT / "crates" / crate / "src").glob("**/*.rt")):
         lines = file.read_text().split("\n")
@@ -175,7 +175,7 @@ def definitions_of(crate):
 
 
 def imported(start):
-    """The files of definitions that one imports, through others too, and that one."""
+    """A file of definitions, and those that it imports, directly or through others."""
     found, waiting = set(), [start]
     while waiting:
         path = waiting.pop()
@@ -202,7 +202,7 @@ def sentence(docs):
 
 
 def headings(items):
-    """The heading of each item, each once on its page."""
+    """The heading of each item. No heading stands twice on a page."""
     seen, found = {}, {}
     for item in items:
         name = item.full()

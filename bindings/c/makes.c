@@ -1,5 +1,5 @@
-/* Makes and frees a million worlds with a bytearray and a view, and then a million formats that pack and unpack: the memory that the
- * process has after the first thousand of each is to be what it has at the end, within 1 MiB. */
+/* Makes and frees a million worlds with a bytearray and a view, and then a million formats that pack and unpack. At the end the process
+ * must have the memory that it had after the first thousand of each, within 1 MiB. */
 #include "pybuf.h"
 
 #include <stdio.h>
@@ -43,7 +43,7 @@ static void one_format(void)
     }
 }
 
-/* How many bytes more the process has after a million. */
+/* How many more bytes the process has after a million. */
 static long more_after(void (*one)(void))
 {
     for (int i = 0; i < 1000; i++)

@@ -1,13 +1,13 @@
-/* The calls of pybuf.h: each tests what it is passed, and calls the export of the proved library.
+/* The calls of pybuf.h. Each tests what it is passed, and calls the export of the proved library.
  *
- * The exports want a handle that is real and zeroed at first, and slices with a pointer that isn't null. Here both are made so.
+ * The exports need a handle that is real and zeroed at first, and slices whose pointer isn't null. The calls here provide both.
  * A call for objects asks one command, whose reply the world keeps, and then reads the reply. */
 #include "exports.h"
 
 #include <stdlib.h>
 #include <string.h>
 
-/* Stands at the head of what was handed out, and is overwritten where that is freed. */
+/* This stands at the head of what was handed out, and is overwritten when that is freed. */
 #define A_WORLD UINT64_C(0x646c726f77667562)
 #define A_FORMAT UINT64_C(0x74616d726f667562)
 
@@ -21,7 +21,7 @@ struct pybuf_format {
     proved_handle handle;
 };
 
-/* What a slice of no bytes points to. */
+/* A slice of no bytes points to this. */
 static uint8_t no_bytes[1];
 
 #define NEEDS(condition, status) \
@@ -138,7 +138,7 @@ pybuf_status pybuf_world_reply(pybuf_world *world, size_t index, char *room, siz
 
 /* ---- objects ---- */
 
-/* What a pointer to a list of 64-bit numbers is, where there are none. */
+/* A pointer to a list of 64-bit numbers points to this if there are none. */
 static const int64_t no_numbers[1];
 
 static const int64_t *numbers_at(const int64_t *pointer)
@@ -152,7 +152,7 @@ static const int64_t *numbers_at(const int64_t *pointer)
         NEEDS((pointer) != NULL || (count) == 0, PYBUF_NULL_POINTER);                            \
     } while (0)
 
-/* Ends the call where the command wasn't carried out. */
+/* Ends the call if the command wasn't carried out. */
 #define ASKS(call)                                     \
     do {                                               \
         uint32_t status = (call);                      \
@@ -160,7 +160,7 @@ static const int64_t *numbers_at(const int64_t *pointer)
             return (pybuf_status)status;               \
     } while (0)
 
-/* Each reads the last reply, once a call has tested its pointers. */
+/* Each of these reads the last reply, after a call has tested its pointers. */
 
 static pybuf_status one_object(pybuf_world *world, pybuf_object *object)
 {

@@ -1,5 +1,5 @@
 /* Six lines through a world by lines and by calls for objects, then the session of the README's head by calls, and its bytes by a
- * format. Prints what each answers. */
+ * format. It prints what each of them answers. */
 #include "pybuf.h"
 
 #include <stdio.h>

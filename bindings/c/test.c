@@ -1,4 +1,4 @@
-/* What the calls of pybuf.h test before they read anything, and how rooms and results are told. Prints what is wrong. */
+/* Tests what the calls of pybuf.h check before they read anything, and how they tell about rooms and results. It prints what is wrong. */
 #include "pybuf.h"
 
 #include <stdio.h>
@@ -66,7 +66,7 @@ static void null_pointers(pybuf_world *world)
 
 static void no_worlds(void)
 {
-    /* memory that is no world, and is as large as one */
+    /* this memory is as large as a world, but isn't one */
     void *other = calloc(1, 64);
     pybuf_world *world = (pybuf_world *)other;
     pybuf_object object;

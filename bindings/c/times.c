@@ -1,5 +1,5 @@
-/* Times a million calls of append, set and get, and of pack and unpack by a format of two numbers, each in nanoseconds of the
- * processor. */
+/* Times a million calls of append, set and get, and of pack and unpack by a format of two numbers. It prints the nanoseconds of the
+ * processor for one call. */
 #include "pybuf.h"
 
 #include <stdio.h>

@@ -1,7 +1,7 @@
 """Builds the wheel and the sdist of the package, for pip and for `tools/release`. It needs Python's standard library alone.
 
 If the shared library lies in the package's folder, the wheel has it, and is for Linux on this processor. Else the wheel is for any
-platform, and the package looks for the library where it is imported. Files have the time that SOURCE_DATE_EPOCH names.
+platform, and the package looks for the library when it is imported. Files have the time that SOURCE_DATE_EPOCH names.
 """
 import base64
 import gzip
@@ -44,12 +44,12 @@ def modules():
 
 
 def moment():
-    # a zip file has no earlier time
+    # a zip file can't have an earlier time
     return max(int(os.environ.get('SOURCE_DATE_EPOCH', '0')), 315532800)
 
 
 def beside():
-    """What lies beside the package and goes along: the licence, and what says which commit was proved."""
+    """The files beside the package that go along: the licence, and the file that says which commit was proved."""
     return {name: (HERE / name).read_bytes() for name in ('LICENSE', 'PROVED') if (HERE / name).is_file()}
 
 

@@ -1,5 +1,5 @@
 """Six lines through a world and by objects, then the session of the README's head by objects, and its bytes by a format.
-Prints what each answers."""
+It prints what each of them answers."""
 import struct
 
 from pybuf import ByteArray, MemoryView, Struct, World

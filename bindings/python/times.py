@@ -1,6 +1,6 @@
-"""Times a million calls of append, set and get on our ByteArray and on Python's bytearray, of get and set through a view and of views
-that are made and dropped, and of pack and unpack by a format of two numbers of our Struct and of Python's, each in nanoseconds of the
-processor."""
+"""Times a million calls of each kind, in nanoseconds of the processor for one call. The calls are append, set and get on a bytearray, get and
+set through a view, views that are made and dropped, and pack and unpack by a format of two numbers. Each is timed on our types and on
+Python's."""
 import struct
 import time
 
@@ -24,7 +24,7 @@ for kind, lent in (ByteArray, MemoryView), (bytearray, memoryview):
     view = lent(array)
     timed(f'{lent.__name__} set', lambda i: view.__setitem__(i, 7))
     timed(f'{lent.__name__} get', view.__getitem__)
-    # a world keeps what it made, so there are fewer of these
+    # a world keeps what it made, so fewer of these are made
     timed(f'{lent.__name__} made and dropped', lambda i: lent(array) is None, CALLS // 10)
 for kind in (Struct, struct.Struct):
     format = kind('<HI')

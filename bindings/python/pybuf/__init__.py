@@ -2,8 +2,9 @@
 
 A `ByteArray` behaves as `bytearray` does, a `MemoryView` as `memoryview` and a `Struct` as `struct.Struct`, and they raise
 Python's own exceptions.
-A `World` runs lines, as the program does. The shared library is that which the environment names by PYBUF_LIBRARY, or lies in this package,
-in the prefix where `tools/install` put the package, or in bindings/out of the repository. Else the system's loader looks for it.
+A `World` runs lines, as the program does. The environment can name the shared library by PYBUF_LIBRARY. Else the package looks for it in its
+own folder, in the prefix where `tools/install` put the package, and in bindings/out of the repository. At last the system's loader looks for
+it.
 `python3 -m pybuf` prints the versions of the package and of the library.
 """
 from ._calls import Status, library_version, struct_error

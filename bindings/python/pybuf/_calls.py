@@ -1,4 +1,4 @@
-"""The calls of include/pybuf.h, by ctypes. Each raises the exception that its status stands for."""
+"""The calls of include/pybuf.h, made by ctypes. Each raises the exception that its status stands for."""
 import ctypes
 import enum
 import operator
@@ -86,19 +86,19 @@ class Slice(ctypes.Structure):
         for name in ('start', 'stop', 'step'):
             part = getattr(key, name)
             if part is not None:
-                # a part past a word counts as the nearest one, as in Python
+                # a part that doesn't fit a word counts as the nearest word, as in Python
                 part = max(-1 << 63, min((1 << 63) - 1, index_of(part)))
                 setattr(made, name, part)
                 setattr(made, f'has_{name}', True)
         return made
 
 
-# The number of what has `__index__`, as Python takes it for an index.
+# The number of an object that has `__index__`, as Python reads an index.
 index_of = operator.index
 
 
 def word_of(value, refusal=IndexError):
-    """An index that fits a word; else it is refused."""
+    """An index, which is refused if it doesn't fit a word."""
     number = index_of(value)
     if not -1 << 63 <= number < 1 << 63:
         raise refusal('cannot fit an index into a word')
@@ -194,7 +194,7 @@ raw = {name: getattr(_LIB, f'pybuf_{name}') for name in _PARAMETERS}
 
 
 class Uncopied:
-    """What names something in the library, and so is neither copied nor pickled."""
+    """An object that names something in the library, and so is neither copied nor pickled."""
 
     def __reduce__(self):
         raise TypeError(f'cannot pickle {type(self).__name__!r} object')
@@ -206,14 +206,14 @@ def raise_for(status):
 
 
 def call(name, *arguments):
-    """Calls, and raises what the status stands for."""
+    """Makes a call, and raises what its status stands for."""
     status = raw[name](*arguments)
     if status:
         raise_for(status)
 
 
 def text_by(ask, *arguments):
-    """The bytes that a call copies to a room, which is made as long as it says. `ask` makes the call, and answers its status."""
+    """The bytes that a call copies to a room. The room is made as long as the call says. `ask` makes the call, and answers its status."""
     length = _SIZE(64)
     while True:
         room = ctypes.create_string_buffer(length.value)
@@ -225,7 +225,7 @@ def text_by(ask, *arguments):
 
 
 def numbers_by(ask, *arguments):
-    """The numbers that a call copies to a room, which is made as long as it says."""
+    """The numbers that a call copies to a room. The room is made as long as the call says."""
     count = _SIZE(8)
     while True:
         room = (Number * max(count.value, 1))()
@@ -237,7 +237,7 @@ def numbers_by(ask, *arguments):
 
 
 def values_by(count, name, *arguments):
-    """The values that a call writes to a room for so many."""
+    """The values that a call writes to a room that has a place for each."""
     room = (Value * max(count, 1))()
     told = _SIZE()
     call(name, *arguments, room, count, ctypes.byref(told))

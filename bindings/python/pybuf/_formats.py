@@ -7,12 +7,12 @@ import threading
 from ._calls import BYTES_VALUE, TRUTH_VALUE, Number, Uncopied, Value, call, index_of, raw, struct_error, text_by, values_by, word_of
 from ._objects import ByteArray, MemoryView, _lent_whole
 
-# a number that no code but '?' takes, in place of one past 64 bits
+# this number stands for one that doesn't fit 64 bits; no code except '?' takes it
 _PAST_ALL = -(1 << 64) + 1
 
 
 def _place(offset, size, length, refusal):
-    """The place of so many bytes from an offset on, which counts from the end where it is negative."""
+    """The place of so many bytes from an offset on. A negative offset counts from the end."""
     offset = word_of(offset, refusal)
     if offset < 0:
         if offset + size > 0 or offset + length < 0:
@@ -24,7 +24,7 @@ def _place(offset, size, length, refusal):
 
 
 class Struct(Uncopied):
-    """A format of the module `struct`. Codes of floats and pointers are none here, nor are blanks."""
+    """A format of the module `struct`. It has no codes of floats and pointers, and no blanks."""
 
     _pointer = None
 
@@ -41,7 +41,7 @@ class Struct(Uncopied):
         pointer = ctypes.c_void_p()
         call('format_parse', format, len(format), ctypes.byref(pointer))
         with self._turn:
-            self._free()  # where it is made once more
+            self._free()  # this matters if `__init__` is called once more
             self._pointer = pointer
             self.format = format.decode('ascii')
             self.size = self._told('format_size')
@@ -126,7 +126,7 @@ class Struct(Uncopied):
 
 
 def _packed_as(code, value):
-    """A value for a call, with Python's refusals of its kind."""
+    """A value for a call. A value of a wrong kind is refused as Python refuses it."""
     if code == '?':
         return Value.of_number(Number.of(bool(value)), TRUTH_VALUE)
     if code == 'c':

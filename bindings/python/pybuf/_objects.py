@@ -1,7 +1,7 @@
 """`ByteArray` and `MemoryView`, which behave as Python's own.
 
-Each `ByteArray` has a world of its own, which its views share and which is freed with the last of them. What two worlds do together
-is done by copies, so that no thread waits for the turn of one world while it has that of another.
+Each `ByteArray` has a world of its own, which its views share and which is freed with the last of them. If two worlds do something
+together, it is done by copies. So no thread waits for the turn of one world while it has that of another.
 """
 import ast
 import ctypes
@@ -11,7 +11,7 @@ from ._calls import Number, Slice, Status, Uncopied, index_of, numbers_by, raise
 from ._worlds import World
 
 _BYTEARRAY, _VECTOR = 1, 2
-# a width from which on a method's result is made in a world, and not read from a reply
+# from this width on, a method's result is made in a world, and isn't read from a reply
 _LONG = 1 << 16
 _NAMES = {'nbytes': 2, 'readonly': 3, 'itemsize': 4, 'ndim': 5, 'shape': 6, 'strides': 7, 'format': 9, 'contiguous': 10,
           'c_contiguous': 11, 'f_contiguous': 12, 'exports': 0}
@@ -62,14 +62,14 @@ def _added(value):
 
 
 def _lent_view(value):
-    """What has the format, the shape and the bytes of an object with a buffer: a view of ours, or one of Python's."""
+    """A view with the format, the shape and the bytes of an object with a buffer. It is a view of ours or one of Python's."""
     if isinstance(value, MemoryView):
         return value
     return memoryview(value.tobytes() if isinstance(value, ByteArray) else value)
 
 
 def _is_of_bytes(view):
-    """Whether a view is one of single bytes, as that of a bytearray is."""
+    """Whether the items of a view are single bytes, as those of a bytearray are."""
     return view.format == 'B' and view.ndim == 1
 
 
@@ -79,7 +79,7 @@ def _copied(world, view):
     `cast` doesn't take is its ValueError."""
     shape, format, content = list(view.shape), view.format.encode(), view.tobytes()
     none = shape[:1] == [0]
-    if none:  # a cast makes no view without items, and a slice does
+    if none:  # a cast can't make a view without items, but a slice can
         shape[0] = 1
         content = bytes(view.itemsize * math.prod(shape))
     made = [world.made('new', _VECTOR, content, len(content))]
@@ -92,7 +92,7 @@ def _copied(world, view):
 
 
 def _byte(value):
-    """A byte as a number, with Python's refusals: of what is no index, and of a number that is no byte."""
+    """A byte as a number. As in Python, a value that is no index is refused, and so is a number that is no byte."""
     number = index_of(value)
     if not 0 <= number <= 255:
         raise ValueError('byte must be in range(0, 256)')
@@ -100,7 +100,7 @@ def _byte(value):
 
 
 def _truth(world, name, *arguments):
-    """What a comparison in a world answers."""
+    """The answer of a comparison in a world."""
     truth = ctypes.c_int()
     status = world.ask(name, *arguments, ctypes.byref(truth))
     if status:
@@ -109,7 +109,7 @@ def _truth(world, name, *arguments):
 
 
 class _Object:
-    """What a world and a number name."""
+    """An object that a world and a number name."""
 
     _world = None
     _object = None
@@ -160,7 +160,7 @@ class _Object:
 class ByteArray(_Object):
     """A bytearray."""
 
-    __module__ = 'pybuf'  # by which pickle finds it
+    __module__ = 'pybuf'  # the module in which pickle looks for the class
     __hash__ = None
 
     def __init__(self, source=b'', encoding=None, errors=None):
@@ -181,7 +181,7 @@ class ByteArray(_Object):
             if zeros:
                 self._call('repeat', zeros)
             return
-        with self._world.turn:  # it is made once more
+        with self._world.turn:  # `__init__` is called once more
             self._call('clear')
             self._call('extend', content, len(content))
             if zeros:
@@ -268,7 +268,7 @@ class ByteArray(_Object):
 
     def __iadd__(self, other):
         content = _added(other)
-        if other is self and content:  # its own bytes are lent meanwhile
+        if other is self and content:  # the array's own bytes are lent meanwhile
             raise BufferError('Existing exports of data: object cannot be re-sized')
         self._call('extend', content, len(content))
         return self
@@ -319,7 +319,7 @@ class ByteArray(_Object):
 
     @classmethod
     def fromhex(cls, text):
-        """The bytes that digits spell, as Python reads them."""
+        """The bytes that digits spell, read as Python reads them."""
         return cls(bytes.fromhex(text))
 
     @staticmethod
@@ -328,7 +328,7 @@ class ByteArray(_Object):
         return bytes.maketrans(_lent(before), _lent(after))
 
 
-# what lines spell of numbers; a number past these is refused, or moved to the nearest place, as these are
+# Lines spell numbers up to this one. A number past it is refused or moved to the nearest place, as this one is.
 _WIDE = 1 << 120
 
 
@@ -354,7 +354,7 @@ _REFUSALS = {name: status for status, name in {
     Status.NOT_IMPLEMENTED_ERROR: 'NotImplementedError', Status.UNKNOWN_NAME: 'UnknownName'}.items()}
 
 
-# what a method's arguments are called, and what stands for those that are left out
+# the names of a method's arguments, and what stands for those that are left out
 _ARGUMENTS = {'split': {'sep': None, 'maxsplit': -1}, 'rsplit': {'sep': None, 'maxsplit': -1}, 'splitlines': {'keepends': False},
               'expandtabs': {'tabsize': 8}, 'translate': {'': None, 'delete': b''}}
 
@@ -406,7 +406,7 @@ for _name in ('capitalize count endswith expandtabs find index isalnum isalpha i
 
 
 def _padding(name):
-    """A method that fills up to a width. A long one is filled here, as a reply would take several times its bytes."""
+    """A method that fills bytes up to a width. A long result is filled here, since a reply would take several times its bytes."""
     by_line = _method(name)
 
     def called(self, width, *fill):
@@ -449,7 +449,7 @@ class MemoryView(_Object, Uncopied):
     _known = None
 
     def __init__(self, source):
-        if self._world is not None:  # once more, as of Python's own
+        if self._world is not None:  # it may be called once more, as with Python's own
             return
         if isinstance(source, (ByteArray, MemoryView)):
             self._keep(source, source._one('view'))
@@ -458,7 +458,7 @@ class MemoryView(_Object, Uncopied):
         with memoryview(source) as view:
             try:
                 made = _copied(world, view)[-1]
-            except ValueError:  # the library hasn't such items, but it has their bytes
+            except ValueError:  # the library has no such items, but it has their bytes
                 made = _copied(world, memoryview(view.tobytes()))[-1]
             self._object = world.made('to_readonly', made) if view.readonly else made
         self._world, self._source, self._constant = world, source, isinstance(source, bytes)
@@ -496,7 +496,7 @@ class MemoryView(_Object, Uncopied):
         self.release()
 
     def _alive(self):
-        """Raises Python's ValueError where the view was released."""
+        """Raises Python's ValueError if the view was released."""
         self._property('nbytes')
 
     def __bytes__(self):
@@ -551,7 +551,7 @@ class MemoryView(_Object, Uncopied):
                 return self._compares_with_bytes(operator, view.tobytes())
             world = World()
             ours, others = _copied(world, self)[-1], _copied(world, view)[-1]
-        except ValueError:  # one was released, or the library hasn't such items: each is equal to itself alone
+        except ValueError:  # one view was released, or the library has no such items; then each view is equal only to itself
             return operator == '!='
         return _truth(world, 'compare_with', ours, _OPERATORS[operator], others)
 
@@ -606,8 +606,8 @@ class MemoryView(_Object, Uncopied):
         if status == Status.OK and not wide:
             return
         if wide or status == Status.TYPE_ERROR and not self.readonly:
-            self[key]  # a key is looked at before a value
-            # the kind was right, so the number doesn't fit: Python's ValueError
+            self[key]  # a key is checked before a value
+            # the kind was right, so the number doesn't fit, which is ValueError in Python
             raise ValueError(f'memoryview: invalid value for format {self.format!r}')
         raise_for(status)
 
@@ -616,10 +616,10 @@ class MemoryView(_Object, Uncopied):
         raise TypeError('cannot delete memory')
 
     def _set_byte(self, key, value):
-        """Writes an item that is bytes, by a line."""
+        """Writes an item whose value is bytes, by a line."""
         if self.readonly:
             raise TypeError('cannot modify read-only memory')
-        self[key]  # a key is looked at before a value
+        self[key]  # a key is checked before a value
         if not isinstance(value, bytes):
             raise TypeError("memoryview: invalid type for format 'c'")
         if len(value) != 1:
@@ -629,7 +629,7 @@ class MemoryView(_Object, Uncopied):
             raise_for(_REFUSALS[reply[2:]])
 
     def tobytes(self, order=None):
-        """A copy of the bytes, in an order as Python's: 'C', 'F' or 'A'. Of another than 'C' by the world's line `bytes`."""
+        """A copy of the bytes, in one of Python's orders: 'C', 'F' or 'A'. An order other than 'C' is asked for by the world's line `bytes`."""
         if order is None or order == 'C':
             return super().tobytes()
         if not isinstance(order, str):
@@ -643,7 +643,7 @@ class MemoryView(_Object, Uncopied):
         return ast.literal_eval(reply)
 
     def tolist(self):
-        """The items, in lists by the shape."""
+        """The items, in lists that are nested as the shape says."""
         shape = self.shape
         if self._code == 'c':
             items = [bytes((byte,)) for byte in self.tobytes()]

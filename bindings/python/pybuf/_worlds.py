@@ -4,12 +4,12 @@ import threading
 
 from ._calls import Status, Uncopied, call, raise_for, raw, text_by
 
-# replies of more bytes than these aren't kept by a world
+# a world doesn't keep replies that have more bytes than this
 _LONG = 1 << 16
 
 
 class BadLine(ValueError):
-    """A line is no command; `line` is its number, from 1."""
+    """A line is no command. `line` is its number, counted from 1."""
 
     def __init__(self, line):
         super().__init__(f'line {line} is not a command')
@@ -54,7 +54,7 @@ class World(Uncopied):
         return self._pointer
 
     def drop(self, view):
-        """Has a view released before the next call. It makes no call itself, as the collector may ask for it in the middle of one."""
+        """Has a view released before the next call. It makes no call itself, since the collector may ask for it in the middle of a call."""
         self._dropped.append(view)
 
     def ask(self, name, *arguments):
@@ -73,7 +73,7 @@ class World(Uncopied):
         return made.value
 
     def ask_for_item(self, name, *arguments):
-        """The status of a call for an item, and where the item is bytes also these."""
+        """The status of a call for an item, and also the bytes if the item is bytes."""
         with self.turn:
             status = self.ask(name, *arguments)
             if status != Status.NOTHING:
@@ -81,7 +81,7 @@ class World(Uncopied):
             return Status.OK, text_by(raw['last_bytes'], self.pointer)
 
     def run(self, text):
-        """The replies to the lines of a text, as texts. Where a line is no command, nothing is run, and BadLine is raised."""
+        """The replies to the lines of a text, as texts. If a line is no command, nothing is run, and BadLine is raised."""
         lines = text.encode() if isinstance(text, str) else bytes(text)
         count = ctypes.c_size_t()
         line = ctypes.c_uint64()

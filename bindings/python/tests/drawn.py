@@ -13,7 +13,7 @@ from pybuf import ByteArray, MemoryView, Struct  # noqa: E402
 
 
 def plain(value):
-    """What a value is, whoever made it."""
+    """A value in a form that is the same, whoever made it."""
     if isinstance(value, (ByteArray, bytearray)):
         return 'bytearray', bytes(value)
     if isinstance(value, (MemoryView, memoryview)):
@@ -26,7 +26,7 @@ def plain(value):
 def outcome(operation, subject):
     try:
         return plain(operation(subject))
-    except Exception as error:  # each kind is compared
+    except Exception as error:  # exceptions of each kind are compared
         return 'raises', type(error)
 
 
@@ -59,7 +59,7 @@ def some_bytes(draw):
 
 
 def array_operation(draw):
-    """An operation for a bytearray, with its words."""
+    """An operation for a bytearray, with the words that tell it."""
     n, k, index = number(draw), key(draw), draw.choice([0, 1, 2, -1, -2, 9, -9, 1 << 70])
     content, other = some_bytes(draw), some_bytes(draw)
     return draw.choice([
@@ -142,7 +142,7 @@ def array_operation(draw):
 
 
 def whole(k):
-    """A key with a step of 1: of an extended slice that is assigned other lengths we differ (docs/reference/differences.md)."""
+    """A key with a step of 1. We differ if another length is assigned to an extended slice (docs/reference/differences.md)."""
     return slice(k.start, k.stop)
 
 
@@ -220,7 +220,7 @@ def a_value(draw, code):
 
 
 def put(f, offset, values):
-    """What stands in a room after a pack, where it isn't refused: Python's own leaves the values before the refused one."""
+    """What stands in a room after a pack that isn't refused. After a refusal, Python's own leaves the values before the refused one there."""
     room = bytearray(b'.' * 40)
     f.pack_into(room, offset, *values)
     return bytes(room)
@@ -260,7 +260,7 @@ def compare_arrays(draw, count):
         words, operation = array_operation(draw)
         answers = outcome(operation, theirs), outcome(operation, ours)
         if lent and answers[0] != answers[1] and answers[1] == ('raises', BufferError):
-            continue  # a length that is asked for is refused before what is there: docs/reference/differences.md
+            continue  # a change of the length is refused before other faults are found (docs/reference/differences.md)
         if answers[0] != answers[1] or bytes(theirs) != bytes(ours):
             differs(words, content, (answers[0], bytes(theirs)), (answers[1], bytes(ours)))
         for view in views:
@@ -281,14 +281,14 @@ def compare_views(draw, count):
                 continue  # Python counts the dimensions of a released view before it refuses to iterate over it
             if answers[0] != answers[1] or bytes(theirs) != bytes(ours):
                 differs(said, content, (answers[0], bytes(theirs)), (answers[1], bytes(ours)))
-            if answers[0][0] == 'memoryview':  # go on with the view that was made
+            if answers[0][0] == 'memoryview':  # the next operations are on the view that was made
                 pair = operation(pair[0]), operation(pair[1])
                 if not pair[0].nbytes and not pair[0].contiguous:
-                    break  # a view without bytes is contiguous here: docs/reference/differences.md
+                    break  # a view without bytes is contiguous here (docs/reference/differences.md)
 
 
 class Side:
-    """Two bytearrays and their views, of Python's types or of ours."""
+    """Two bytearrays and their views, which are all of Python's types or all of ours."""
 
     def __init__(self, array, view, contents):
         self.view, self.arrays, self.views = view, [array(content) for content in contents], []
@@ -297,7 +297,7 @@ class Side:
         return [*self.arrays, *self.views, b'\1\0', memoryview(b'\1\0\2\0').cast('H')][at]
 
     def whole(self, at):
-        """An object, but for a view that is released or whose items lie apart: these are refused otherwise than by Python."""
+        """An object, except for a view that is released or whose items lie apart. We refuse such a view otherwise than Python does."""
         value = self.object(at)
         try:
             return value if getattr(value, 'c_contiguous', True) else b''
@@ -305,7 +305,7 @@ class Side:
             return b''
 
     def again(self, at, source):
-        """Makes a bytearray once more. Of itself we differ."""
+        """Calls `__init__` of a bytearray once more. We differ if it is made of itself."""
         if source != at:
             self.arrays[at].__init__(self.whole(source))
 
@@ -315,8 +315,8 @@ class Side:
 
 
 def pair_operation(draw, count):
-    """An operation for a side with so many views, with its words."""
-    one, other = draw.randrange(count + 3), draw.randrange(count + 4)  # the last is Python's own, which asks no object of ours
+    """An operation for a side with so many views, with the words that tell it."""
+    one, other = draw.randrange(count + 3), draw.randrange(count + 4)  # the last object is Python's own, and it asks nothing of ours
     array, k, n = draw.randrange(2), key(draw), draw.randrange(3)
     made = [
         (f'view of {one}', lambda s: s.keep(s.view(s.object(one)))),
@@ -369,7 +369,7 @@ def compare_pairs(draw, count):
             if answers[0] != answers[1] or after[0] != after[1]:
                 differs(said, contents, (answers[0], after[0]), (answers[1], after[1]))
             if answers[0][0] == 'memoryview' and lies_apart(theirs.views[-1]) and not theirs.views[-1].nbytes:
-                break  # a view without bytes is contiguous here: docs/reference/differences.md
+                break  # a view without bytes is contiguous here (docs/reference/differences.md)
 
 
 def differs_as_said(answers):

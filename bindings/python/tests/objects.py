@@ -38,7 +38,7 @@ class Spelled:
 
 
 def raises(kind):
-    """Says how a story ends, where it doesn't end well."""
+    """Says how a story ends, if it doesn't end well."""
     def said(story):
         story.kind = kind
         return story
@@ -464,7 +464,7 @@ def a_negative_count_is_no_times(A, M, S):
 
 
 def plain(value):
-    """What a value is, whoever made it."""
+    """A value in a form that is the same, whoever made it."""
     if isinstance(value, (ByteArray, bytearray)):
         return 'bytearray', bytes(value)
     if isinstance(value, (list, tuple)):
@@ -475,7 +475,7 @@ def plain(value):
 def outcome(story, types):
     try:
         return plain(story(*types))
-    except Exception as fault:  # each kind is compared
+    except Exception as fault:  # exceptions of each kind are compared
         return 'raises', type(fault)
 
 

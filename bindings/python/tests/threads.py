@@ -1,4 +1,4 @@
-"""Has two threads work on the same objects, and looks at each answer.
+"""Lets two threads work on the same objects, and checks each answer.
 
     threads.py [SECONDS]     so many seconds in all, 5 if left out; the first wrong answer ends it with 1
 """
@@ -113,7 +113,7 @@ KINDS = reads_of_an_array, edits_of_an_array, reads_of_a_view, views_come_and_go
 
 
 def both(kind, seconds):
-    """How many steps two threads made in this time."""
+    """How many steps two threads took in this time."""
     *steps, end = kind()
     until = time.monotonic() + seconds
     made, faults = [0, 0], []

@@ -88,8 +88,8 @@ pub struct Format {
     text: String,
 }
 
-// In each block below the format is alive, no other call uses it, and each pointer is to a place of this call that is as long as
-// is said.
+// In each block below the format is alive, no other call uses it, and each pointer points to a place of this call that is as long
+// as the call says.
 impl Format {
     /// The format that a text spells.
     pub fn new(text: &str) -> Result<Format> {

@@ -30,6 +30,6 @@ pub const VERSION: &str = env!("CARGO_PKG_VERSION");
 
 /// The version of the library that is linked. It is that of the crate, unless PYBUF_OUT names another library.
 pub fn library_version() -> String {
-    // what is answered ends with a zero, and stays
+    // the text that the call answers ends with a zero, and is never freed
     unsafe { std::ffi::CStr::from_ptr(calls::pybuf_version()) }.to_string_lossy().into_owned()
 }

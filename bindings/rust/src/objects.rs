@@ -62,8 +62,8 @@ struct Object {
     number: u64,
 }
 
-// In each block below the world is alive, no other call uses it, and each pointer is to a place of this call that is as long as
-// is said.
+// In each block below the world is alive, no other call uses it, and each pointer points to a place of this call that is as long
+// as the call says.
 impl Object {
     fn made(&self, number: u64) -> Object {
         Object {

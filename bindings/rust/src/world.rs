@@ -45,7 +45,7 @@ impl World {
     /// A world with nothing in it.
     pub fn new() -> Result<World> {
         let mut pointer = ptr::null_mut();
-        // The pointer is to a place that is ours.
+        // The pointer points to a place that is ours.
         done(unsafe { calls::pybuf_world_new(&mut pointer) })?;
         Ok(World { pointer })
     }
@@ -53,7 +53,7 @@ impl World {
     /// The replies to the lines of a text. A refusal is a reply that begins with `!`.
     pub fn run(&mut self, text: &str) -> std::result::Result<Vec<String>, RunError> {
         let (mut count, mut line) = (0, 0);
-        // The text is read during the call alone, and the world is used by this call alone.
+        // The text is read only during the call, and only this call uses the world.
         let status = unsafe { calls::pybuf_world_run(self.pointer, text.as_ptr(), text.len(), &mut count, &mut line) };
         if status == 4 {
             return Err(RunError::BadLine(line));

@@ -172,7 +172,7 @@ fn main(rt: HostRuntime) -> ExitCode {
         Err(Halt::NoMemory) => ExitCode::from(3),
         Err(Halt::Refused(fault)) => {
             let name = fault.python_name();
-            // where it can't be told, the status still tells it
+            // if the name can't be written, the exit status still tells that the file was refused
             let _ = eprintln!(rt; "example_elf: {name}");
             ExitCode::from(2)
         }

@@ -148,7 +148,7 @@ fn hand_over<A: Ledger, B: Ledger, R: Wait>(
     let (source, mut giver) = locked::<A>(alloc, first, from)?;
     let (target, mut taker) = locked::<B>(alloc, second, to)?;
     let extending = extending(alloc);
-    // whether bytes were there is told by the history, where it is found to be one of one thread
+    // Whether there were bytes isn't checked here. The history tells it, once it is found to be one of a single thread.
     target.carry(
         rt,
         alloc,

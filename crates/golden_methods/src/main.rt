@@ -29,7 +29,7 @@ fn push_line(out: &mut Vec<u8>, method: &str, argument: &[u8], tally: &Tally) ->
     push_number(out, tally.count as i128)?;
     out.push(b' ')?;
     let mut digits = [0u8; 16];
-    // the room takes the two digits of each of eight bytes, so this is no refusal
+    // the room has a place for both digits of each of eight bytes, so this is never refused
     let _ = hex::encode_to_slice(tally.hash.to_be_bytes(), &mut digits);
     out.extend_from_slice(digits.as_slice())?;
     out.push(b'\n')?;

@@ -39,7 +39,7 @@ impl Tally {
     fn hex(&mut self, bytes: &[u8]) {
         for byte in bytes {
             let mut digits = [0u8; 2];
-            // the room takes the two digits of a byte, so this is no refusal
+            // the room has a place for both digits of a byte, so this is never refused
             let _ = hex::encode_to_slice([*byte], &mut digits);
             self.text(digits.as_slice());
         }

@@ -1,14 +1,14 @@
 -- Tests that closures make of single bytes.
 use Rattle.std.specs.Prelude.{◌≡◌, ◌⊎◌, ℕ, ◌<◌, Bool, true, false, List, [], ◌∷◌}
 
--- a test that a closure makes of a byte
+-- a closure answers for a byte what the test says
 abbrev pub IsTestOfByte : (ℕ → Bool → Type 0) → (ℕ → Bool) → Type 0
 IsTestOfByte post test = (b : ℕ) (answer : Bool) → b < 256 → post b answer → answer ≡ test b
 
--- a result of bytes that are tested in order, up to the first for which a test of the opposite case answers yes: the
--- result is false then, and else whether the test of the case answers yes for one of them, behind which it isn't asked
--- any more. `says` and `opposes` tell what the two may answer for a byte, and `found` is whether the first answered yes
--- before.
+-- A result of bytes that are tested in order. As soon as the test of the opposite case answers yes for a byte, the
+-- result is false. Else it is whether the test of the case answered yes for one of them; from then on that test isn't
+-- asked any more. `says` and `opposes` tell what the two tests may answer for a byte, and `found` is whether the first
+-- one answered yes before.
 abbrev pub IsInCase : (ℕ → Bool → Type 0) → (ℕ → Bool → Type 0) → Bool → List ℕ → Bool → Type 0
 IsInCase says opposes found [] result = result ≡ found
 IsInCase says opposes true (b ∷ bytes) result =

@@ -32,7 +32,7 @@ use std::ops::Range;
 ///
 /// Example: `Bytes` is one: a new one to which `b"ab"` is added holds `b"ab"`.
 pub trait AnyStrContainer: Sized {
-    // The bytes.
+    // The bytes that it holds.
     ghost bytes: { Self → List ℕ };
 
     /// A string without bytes. Takes no memory.
@@ -60,7 +60,7 @@ pub trait AnyStrContainer: Sized {
 ///
 /// Example: of the `Bytes` of `b"abcabc"`, `py_find` of `b"bc"` in `2..6` is `Some(4)`.
 pub trait AnyStr {
-    // The bytes.
+    // The bytes that it holds.
     ghost bytes: { Self → List ℕ };
 
     /// How many bytes an element takes, which is one.

@@ -24,7 +24,7 @@ pub fn step_of(
     ensures kept { edits_by subject verb ≡ false → state.new.room ≡ state.old.room }
 {
     let answer = state.carry_out(subject, &verb, &loans);
-    // Handed over here: a verb that ends with its scope would spell out all its variants.
+    // The verb is dropped by a call here. If it ended with its scope, the drop would spell out all its variants.
     drop(verb);
     answer
 }

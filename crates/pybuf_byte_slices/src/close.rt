@@ -66,7 +66,7 @@ fn close_runs(bytes: &mut [u8], low: usize, size: usize, count: usize)
     ensures { bytes.new ≡ closed_runs bytes.old low size count }
 {
     match size {
-        // there is nothing between neighbours
+        // nothing lies between two neighbours
         0 => {}
         1 => close_sized::<1>(bytes, low, count),
         2 => close_sized::<2>(bytes, low, count),

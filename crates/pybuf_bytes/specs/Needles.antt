@@ -9,20 +9,20 @@ use Rattle.pybuf_value.specs.Snaps.{bytes_in}
 use Rattle.pybuf_bytes.specs.declared.needles.Needle.{Needle}
 use Rattle.pybuf_bytes.specs.declared.needles.Needle.TheVariants as needle
 
--- the bytes that are searched for: a number is one byte
+-- the bytes that are searched for; a number stands for one byte
 abbrev pub needle_bytes : Needle → Result (List ℕ) Fault
 needle_bytes (needle.Bytes bytes) = Ok bytes
 needle_bytes (needle.Number n) = do
   byte ← byte_of n
   Ok (byte ∷ [])
 
--- a number of a value, where that is a byte
+-- a number as a needle, if it is a byte
 abbrev pub number_needle : ℤ → Result Needle Fault
 number_needle n = do
   _ ← byte_of n
   Ok (needle.Number n)
 
--- a value as a needle: a number as one byte, and any other value by its bytes
+-- a value as a needle: a number stands for one byte, and any other value for its bytes
 abbrev pub needle_by : List (ℕ × Snap) → Value → Result ℤ Fault → Result Needle Fault
 needle_by pairs v (Ok n) = number_needle n
 needle_by pairs v (Err _) = do

@@ -1,5 +1,5 @@
--- What bytes are made of: the arguments of Python's `bytes(source, encoding, errors)`, in the written
--- order of its checks.
+-- What bytes are made from: the arguments of Python's `bytes(source, encoding, errors)`, with its checks in their
+-- order.
 use Rattle.std.specs.Prelude.{ℕ, Bool, true, not, ◌||◌, ◌&&◌, ℤ, pos, negsuc, List, [], replicate, codes, Option, Some, None, Result, Ok, Err}
 use Rattle.std.specs.Str.{bytes_eq}
 use Rattle.pybuf_value.specs.declared.faults.Fault.{Fault}
@@ -13,7 +13,7 @@ use Rattle.pybuf_value.specs.Snaps.{bytes_in}
 
 -- ---- a source alone
 
--- a size is at least 0, and asks for so many bytes of 0
+-- a size is at least 0, and asks for this many zero bytes
 abbrev pub zeros_of : ℤ → Result (List ℕ) Fault
 zeros_of (pos n) = Ok (replicate n 0)
 zeros_of (negsuc n) = Err fault.Value
@@ -23,7 +23,7 @@ sized_bytes number = do
   size ← fitted_number fault.Overflow number
   zeros_of size
 
--- a number is a size, and any other value is read as bytes; a text is none
+-- a number is a size, and any other value is read as bytes, which a text can't be
 abbrev pub bytes_by_number : List (ℕ × Snap) → Value → Result ℤ Fault → Result (List ℕ) Fault
 bytes_by_number pairs source (Ok number) = sized_bytes number
 bytes_by_number pairs source (Err f) = bytes_in pairs source
@@ -39,7 +39,7 @@ is_utf8_name name = bytes_eq name (codes "utf-8") || bytes_eq name (codes "utf8"
 abbrev pub is_ascii_name : List ℕ → Bool
 is_ascii_name name = bytes_eq name (codes "ascii")
 
--- the one handler of errors
+-- whether the handler of errors is `strict`, the only one there is; it needn't be named
 abbrev pub is_strict : Option (List ℕ) → Bool
 is_strict None = true
 is_strict (Some name) = bytes_eq name (codes "strict")
@@ -55,14 +55,14 @@ encoded source encoding errors = do
 
 -- ---- the options
 
--- the text of an argument that may not be given
+-- the text of an argument that may be missing
 abbrev pub text_given : Option Value → Result (Option (List ℕ)) Fault
 text_given None = Ok None
 text_given (Some v) = do
   text ← text_in v
   Ok (Some text)
 
--- by what is given: nothing, a source alone, or a source with its encoding
+-- the bytes, by what is given: nothing, a source alone, or a source with its encoding
 abbrev pub bytes_by : List (ℕ × Snap) → Option Value → Option (List ℕ) → Option (List ℕ) → Result (List ℕ) Fault
 bytes_by pairs None None None = Ok []
 bytes_by pairs None _ _ = Err fault.Kind
@@ -70,7 +70,7 @@ bytes_by pairs (Some source) None None = bytes_of_source pairs source
 bytes_by pairs (Some source) None (Some errors) = Err fault.Kind
 bytes_by pairs (Some source) (Some encoding) errors = encoded source encoding errors
 
--- An encoding and a handler of errors that are given must be texts, before all else.
+-- An encoding and a handler of errors must be texts if they are given. This is checked before all else.
 abbrev pub bytes_of_options : List (ℕ × Snap) → Option Value → Option Value → Option Value → Result (List ℕ) Fault
 bytes_of_options pairs source encoding errors = do
   encoding ← text_given encoding

@@ -1,4 +1,4 @@
--- Searches and cuts by arguments.
+-- Searches and cuts, by their arguments.
 use Rattle.std.specs.Prelude.{◌≡◌, ℕ, ℤ, ◌++◌, Bool, List, length, Option, None, Some, Result, Ok, Err}
 use Rattle.std.specs.Global.{Vec}
 use Rattle.std.specs.declared.ops.Range.{Range}
@@ -25,13 +25,13 @@ use Rattle.pybuf_bytes.specs.Needles.{needle_bytes}
 
 -- ---- searches
 
--- whether the bytes that are searched for stand anywhere, unless they are refused
+-- whether bytes hold the needle, or why the needle is refused
 abbrev pub contains_by : Result (List ℕ) Fault → List ℕ → Result Bool Fault
 contains_by sought bytes = do
   needle ← sought
   Ok (holds_needle bytes needle)
 
--- the same of a needle
+-- the same for a needle that may be a number
 abbrev pub contains_of : Needle → List ℕ → Result Bool Fault
 contains_of sub bytes = contains_by (needle_bytes sub) bytes
 
@@ -47,8 +47,8 @@ find_of search sub start end bytes = do
   needle ← needle_bytes sub
   Ok (place_in_range search bytes needle (adjusted start end (length bytes)))
 
--- what is found between two bounds, where `answers` tells what a search may answer for bytes and a needle: a place in
--- the range, or the refusal of the needle, whatever the search may answer
+-- What is found between two bounds, if `answers` says what a search may answer for bytes and a needle. It is a place in
+-- the range, or the refusal of the needle, whatever the search may answer.
 abbrev pub IsFound : (List ℕ → List ℕ → Option ℕ → Type 0) → Needle → Option ℤ → Option ℤ → List ℕ → Outcome (Option ℕ) → Type 0
 IsFound answers sub start end bytes (outcome.Refused f) = needle_bytes sub ≡ Err f
 IsFound answers sub start end bytes (outcome.Done place) =
@@ -60,19 +60,20 @@ search_of sub start end len = do
   needle ← needle_bytes sub
   Ok (needle, adjusted start end len)
 
--- what was answered, with the bytes of the vector as a list
+-- an answer, with the bytes of the vector as a list
 abbrev pub search_answered : Outcome (Vec ℕ × Range ℕ) → Outcome (List ℕ × Range ℕ)
 search_answered (outcome.Done search) = outcome.Done (search.0.items, search.1)
 search_answered (outcome.Refused f) = outcome.Refused f
 
 -- ---- cuts
 
--- the parts at the matches of a separator, or without one at the blanks; an empty separator is refused
+-- the parts between the matches of a separator, or between blanks if there is no separator; an empty separator is
+-- refused
 abbrev pub split_of : Option (List ℕ) → ℤ → List ℕ → Result (List (List ℕ)) Fault
 split_of None most bytes = Ok (blank_parts most bytes)
 split_of (Some separator) most bytes = by_separator separator (split_parts most separator bytes)
 
--- the same with cuts from the right
+-- the same, if cuts begin from the right
 abbrev pub rsplit_of : Option (List ℕ) → ℤ → List ℕ → Result (List (List ℕ)) Fault
 rsplit_of None most bytes = Ok (blank_rparts most bytes)
 rsplit_of (Some separator) most bytes = by_separator separator (rsplit_parts most separator bytes)
@@ -84,7 +85,7 @@ partition_by separator bytes = by_separator separator (partition_of separator by
 abbrev pub rpartition_by : List ℕ → List ℕ → Result (List ℕ × Bool × List ℕ) Fault
 rpartition_by separator bytes = by_separator separator (rpartition_of separator bytes)
 
--- what was answered, with the bytes of the vectors as lists
+-- an answer, with the bytes of the vectors as lists
 abbrev pub parts_answered : Outcome (Vec ℕ × Bool × Vec ℕ) → Outcome (List ℕ × Bool × List ℕ)
 parts_answered (outcome.Done parts) = outcome.Done (parts.0.items, parts.1, parts.2.items)
 parts_answered (outcome.Refused f) = outcome.Refused f
@@ -101,11 +102,11 @@ concat_of pairs other bytes = do
   operand ← operand_in pairs other
   fitted (bytes ++ operand)
 
--- the bytes so many times
+-- the bytes, repeated this many times
 abbrev pub repeated_of : ℤ → List ℕ → Result (List ℕ) Fault
 repeated_of n bytes = fitted (repeated (times n) bytes)
 
--- the bytes after a change, or those from before where it is refused
+-- the bytes after a change, or the old ones if the change is refused
 abbrev pub or_before : List ℕ → Result (List ℕ) Fault → List ℕ
 or_before before (Ok bytes) = bytes
 or_before before (Err f) = before

@@ -69,7 +69,8 @@ impl PyBytesInner {
         ensures bytes { OnOk result (self.new ≡ spec.or_before self.old (spec.repeated_of n self.old)) }
         ensures memory { OnErr result (self.new ≡ self.old) }
     {
-        // That there are at most `isize::MAX` of them is what the prover asks for where they stay.
+        // The prover asks for this length. It tells that there are at most `isize::MAX` bytes, which the prover needs
+        // if they stay as they are.
         let _length = self.len();
         if n == 1 {
             return Ok(Outcome::Done(()));

@@ -66,7 +66,8 @@ fn run_lines<K: Sink>(
     let mut array = PyArray::new(alloc, code);
     let mut words = Vec::new(alloc);
     let mut text = Vec::new(alloc);
-    // A reply is written apart from those that wait: it may be one for which there is no memory.
+    // A reply is written into a text of its own, and not behind the replies that wait, since memory may run out while
+    // it is written.
     let mut reply = Vec::new(alloc);
     let mut rest = input;
     'running: while let Some((line, after)) = next_line(rest) {

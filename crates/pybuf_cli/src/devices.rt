@@ -45,10 +45,10 @@ impl From<NoMemory> for PutFault {
 ///
 /// Example: a `QuietSource` of `b"abcd"` gives `b"abcd"`, and then nothing.
 pub trait Source {
-    // The bytes that are left, where the source tells them.
+    // The bytes that are left, if the source tells them.
     ghost bytes_left: { Self → Option (List ℕ) };
 
-    // How often the source failed. The count stands still at `2^64 - 1`.
+    // How often the source failed. The count stays at `2^64 - 1` once it reaches that.
     ghost faults: { Self → ℕ };
 
     /// Moves the next bytes into the front of the room, and says how many: none only at the end,
@@ -70,10 +70,10 @@ pub trait Source {
 ///
 /// Example: a `QuietSink` into which `b"ab"` and `b"cd"` were put whole holds `b"abcd"`.
 pub trait Sink {
-    // The bytes that were put so far, where the sink tells them.
+    // The bytes that were put so far, if the sink tells them.
     ghost bytes_held: { Self → Option (List ℕ) };
 
-    // How often the sink failed. The count stands still at `2^64 - 1`.
+    // How often the sink failed. The count stays at `2^64 - 1` once it reaches that.
     ghost faults: { Self → ℕ };
 
     /// Puts the first bytes of the piece, and says how many: none only of an empty piece.

@@ -55,7 +55,7 @@ fn script_number(word: &Text) -> Option<u16>
     if number > MOST_ROUNDS {
         return None;
     }
-    // a sign and leading zeros are read too, and never written
+    // The number is written and compared with the word, since a sign and leading zeros are read too but never written.
     let mut buffer = Buffer::new();
     if is_word(word.as_slice(), buffer.format(number)) {
         return Some(number);

@@ -50,7 +50,7 @@ pub fn read_all<S: Source>(alloc: Global, source: &mut S) -> Result<Vec<u8>, Rea
     ensures later { S.faults source.old ≤ S.faults source.new }
 {
     let mut input = Vec::new(alloc);
-    // once for all pieces, so that none is moved when the next comes
+    // memory is taken once for all pieces, so that no piece is moved when the next one comes
     input.reserve_exact(MOST + 1)?;
     let mut room = [0u8; PIECE];
     'reading: loop {

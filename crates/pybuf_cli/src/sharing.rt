@@ -36,7 +36,8 @@ fn put_entries<K: Sink>(alloc: Global, sink: &mut K, entries: &[Entry]) -> Resul
     ensures later { K.faults sink.old ≤ K.faults sink.new }
 {
     let mut text = Vec::new(alloc);
-    // A line is written apart from those that wait: it may be one for which there is no memory.
+    // A line is written into a text of its own, and not behind the lines that wait, since memory may run out while it
+    // is written.
     let mut line = Vec::new(alloc);
     for entry in entries {
         let Ok(()) = push_entry_line(&mut line, entry) else {

@@ -29,7 +29,8 @@ fn put_listing<K: Sink>(
     ensures later { K.faults sink.old ≤ K.faults sink.new }
 {
     let mut text = Vec::new(alloc);
-    // A line is written apart from those that wait: it may be one for which there is no memory.
+    // A line is written into a text of its own, and not behind the lines that wait, since memory may run out while it
+    // is written.
     let mut line = Vec::new(alloc);
     let mut rest = input;
     'tabling: while !rest.is_empty() {

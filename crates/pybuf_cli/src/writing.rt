@@ -37,7 +37,7 @@ fn answer_line<'a>(
     requires { IsSpelled line.now }
     ensures { OnOk result (IsAnswered world.old line.now text.old.items world.new text.new.items) }
 {
-    // The command is lent where it was read to: it is long, and each move of it would be a copy.
+    // The command is lent from where it was read to. It is long, and each move would copy it.
     let read = command_of_line(alloc, words, line);
     let answered = match &read {
         Ok(command) => answer_command(world, command, text),
@@ -61,7 +61,8 @@ pub fn run_lines<K: Sink>(alloc: Global, sink: &mut K, input: &[u8]) -> Result<(
     let mut world = World::new(alloc);
     let mut words = Vec::new(alloc);
     let mut text = Vec::new(alloc);
-    // A reply is written apart from those that wait: it may be one for which there is no memory.
+    // A reply is written into a text of its own, and not behind the replies that wait, since memory may run out while
+    // it is written.
     let mut reply = Vec::new(alloc);
     let mut rest = input;
     'running: while let Some((line, after)) = next_line(rest) {

@@ -3,7 +3,7 @@ use Rattle.std.specs.Prelude.{ℕ, Bool, ◌&&◌, nat_le}
 use Rattle.pybuf_command.specs.declared.methods.MethodName.{MethodName}
 use Rattle.pybuf_command.specs.declared.methods.MethodName.TheVariants as name
 
--- the fewest
+-- the least number of arguments that a method takes
 abbrev pub fewest : MethodName → ℕ
 fewest name.Add = 1
 fewest name.Concat = 1
@@ -30,7 +30,7 @@ fewest name.MakeTrans = 2
 fewest name.Replace = 2
 fewest _ = 0
 
--- and the most
+-- the greatest number of arguments that a method takes
 abbrev pub most : MethodName → ℕ
 most name.Add = 1
 most name.Concat = 1
@@ -66,6 +66,6 @@ most name.EndsWith = 3
 most name.Replace = 3
 most _ = 0
 
--- whether a method takes so many
+-- whether a method takes this number of arguments
 abbrev pub takes : MethodName → ℕ → Bool
 takes name count = nat_le (fewest name) count && nat_le count (most name)

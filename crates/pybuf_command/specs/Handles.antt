@@ -31,11 +31,11 @@ abbrev pub handles_in_option : Option Value → List ℕ
 handles_in_option (Some v) = handles_in v
 handles_in_option None = []
 
--- the handles of what bytes are made of
+-- the handles of the options that bytes are made from
 abbrev pub handles_of_options : ByteInnerNewOptions → List ℕ
 handles_of_options options = handles_in_option options.source ++ handles_in_option options.encoding ++ handles_in_option options.errors
 
--- the handle that a source alone is, without an encoding: of no other are bytes read
+-- the handle of a source, if it is given without an encoding; only then are the bytes of a handle read
 abbrev pub source_alone : Option Value → Option Value → Option Value → Option ℕ
 source_alone (Some (value.One (scalar.Handle h))) None None = Some h
 source_alone _ _ _ = None
@@ -76,9 +76,9 @@ abbrev pub handle_of_option : Option Value → List ℕ
 handle_of_option (Some v) = handle_of_value v
 handle_of_option None = []
 
--- The handles whose bytes a command reads: a value that is written through a view or by a slice, one
--- that bytes are added or made of, one that a subject is compared with or searched for, a separator of
--- digits, and each argument of a method. Of every other handle only that it was given matters.
+-- The handles whose bytes a command reads. They are a value that is written through a view or by a slice, a value that
+-- is added or that bytes are made from, a value that a subject is compared with or searched for, a separator of digits,
+-- and each argument of a method. For every other handle it only matters that it was given.
 abbrev pub handles_read : Subject → Verb → List ℕ
 handles_read (subject.View k) (verb.Set key v) = handle_of_value v
 handles_read (subject.View k) (verb.Compare op v) = handle_of_value v

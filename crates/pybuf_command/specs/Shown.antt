@@ -1,4 +1,4 @@
--- The text of a reply, by how a handle is written, and of the reply of one exporter.
+-- The texts of replies: of a reply, by how a handle is written, and of the reply of one exporter.
 use Rattle.std.specs.Prelude.{ℕ, zero, suc, ◌/◌, length, take, drop, List, [], ◌∷◌, ◌++◌, codes, Option, Some, None}
 use Rattle.std.specs.Fmt.{decimal, signed_decimal}
 use Rattle.std.specs.Str.{byte}
@@ -10,17 +10,18 @@ use Rattle.pybuf_command.specs.declared.commands.LocalReply.TheVariants as local
 use Rattle.pybuf_command.specs.declared.worlds.Reply.{Reply}
 use Rattle.pybuf_command.specs.declared.worlds.Reply.TheVariants as reply
 
--- the first so many blocks, each of so many items
+-- the first blocks of the items, as many as asked for and each of this size
 abbrev pub cut : {A : Type 0} → ℕ → ℕ → List A → List (List A)
 cut zero size items = []
 cut (suc n) size items = take size items ∷ cut n size (drop size items)
 
--- the items cut into so many blocks of the same length
+-- the items, cut into this number of blocks of the same length
 abbrev pub blocks : {A : Type 0} → ℕ → List A → List (List A)
 blocks n items = cut n (length items / n) items
 
--- Items nested by a shape, by the text of an item: of several dimensions, the entries of the first one are lists, each of its
--- block of the items, nested by the rest of the shape. Without dimensions it is a list of the one item.
+-- The text of items that are nested by a shape, if `text` writes an item. In several dimensions, each entry of the
+-- first dimension is a list: it has its block of the items, nested by the rest of the shape. Without dimensions it is a
+-- list of the one item.
 abbrev pub nested_text : {A : Type 0} → (A → List ℕ) → List ℕ → List A → List ℕ
 nested_text text [] items = list_text text items
 nested_text text (n ∷ []) items = list_text text items
@@ -42,12 +43,13 @@ reply_text name reply.Stop = codes "stop"
 reply_text name (reply.Numbers numbers) = tuple_text signed_decimal numbers
 reply_text name (reply.Refused fault) = codes "! " ++ python_name_of fault
 
--- What is said of how a reply is shown: it has the text of its line. Of items in several dimensions nothing is said.
+-- What a contract says of how a reply is shown: it has the text of its line. Nothing is said of items, which may have
+-- several dimensions.
 abbrev pub shown_reply : Reply → Option (List ℕ)
 shown_reply (reply.Items shape items) = None
 shown_reply r = Some (reply_text handle_text r)
 
--- The text of the reply of one exporter: that of its line, where a line shows no handle.
+-- The text of the reply of one exporter. It is the text of the line, unless the line shows a handle.
 abbrev pub display_text : LocalReply → List ℕ
 display_text local.Ok = codes "ok"
 display_text (local.View view) = codes "view " ++ decimal view
@@ -67,7 +69,8 @@ display_text (local.Numbers numbers) = tuple_text signed_decimal numbers
 display_text (local.Fresh snap) = codes "a copy of " ++ bytes_text snap.content
 display_text (local.Refused fault) = codes "! " ++ python_name_of fault
 
--- What is said of how it is shown: it has this text. Of items in several dimensions nothing is said.
+-- What a contract says of how such a reply is shown: it has this text. Nothing is said of items, which may have several
+-- dimensions.
 abbrev pub shown_local_reply : LocalReply → Option (List ℕ)
 shown_local_reply (local.Items shape items) = None
 shown_local_reply r = Some (display_text r)

@@ -304,7 +304,7 @@ pub enum LocalReply {
 impl Twin for LocalCommand {
     fn copy(&self, alloc: Global) -> Made<LocalCommand> {
         let subject = self.subject;
-        // The verb comes last, so that no arm drops one, which would spell out all its variants.
+        // The verb is copied last, so that no arm drops one. Such a drop would spell out all its variants.
         let loans = self.loans.copy(alloc)?;
         match self.verb.copy(alloc) {
             Ok(verb) => Ok(LocalCommand {

@@ -16,7 +16,8 @@ pub struct ByteInnerNewOptions {
 
 impl Twin for ByteInnerNewOptions {
     fn copy(&self, alloc: Global) -> Made<ByteInnerNewOptions> {
-        // What is dropped is handed over: a value that ends with its scope would spell out all its variants.
+        // What is dropped is handed over to a call. If it ended with its scope, the drop would spell out all its
+        // variants.
         let source = self.source.copy(alloc)?;
         match self.encoding.copy(alloc) {
             Ok(encoding) => match self.errors.copy(alloc) {

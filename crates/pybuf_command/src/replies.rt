@@ -78,7 +78,7 @@ impl LocalReply {
     {
         match self {
             LocalReply::Bytes(bytes) => Some(bytes.into_vec()),
-            // handed over: what ends with its scope would spell out all its variants
+            // The reply is dropped by a call. If it ended with its scope, the drop would spell out all its variants.
             other => {
                 drop(other);
                 None

@@ -55,7 +55,8 @@ impl<T: Exact> Exact for Option<T> {
     ghost exact = { λ x y s. exact_option T.exact x y s };
 }
 
-// A clause sees also where a list or a text lies and how much room it has, so that a copy is not equal.
+// A clause also sees where a list or a text lies and how much room it has. So to a clause, a copy isn't equal to its
+// source.
 impl<T: Twin> Twin for Vec<T> {
     ghost same = { λ old twin. AllZip T.same old.items twin.items };
 

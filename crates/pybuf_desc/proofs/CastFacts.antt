@@ -18,7 +18,7 @@ use Rattle.pybuf_desc.proofs.Runs.{run, first-places, run_from_contiguous}
 use Rattle.pybuf_desc.proofs.Flat.{valid_flat_at, whole_items, places-flat}
 use Rattle.pybuf_desc.proofs.SliceFacts.{length-map}
 
--- the items lie without a gap, from wherever they start
+-- the items lie without a gap, wherever they start
 abbrev pub HasNoGap : Descriptor → Type 0
 HasNoGap d = (start : ℤ) → IsContiguous d.itemsize start (places d.dims start)
 

@@ -1,4 +1,4 @@
--- What a cast makes of a cast.
+-- What a cast makes from a cast.
 use Rattle.std.proofs.Common.{◌≡◌, refl, sym, ap, ap₂, ◌∙◌, ℕ, zero, suc, ◌+◌, ◌*◌, ◌/◌, ◌<◌, pos, List, [], ◌∷◌, ◌++◌, length, map, Bool, Option, Some, None, subst, mul-pos, zero-mul, arith}
 use Rattle.std.specs.List.{flat_map, range_with_len}
 use Rattle.std.proofs.lemmas.List.FromFn.{length-map-range_with_len}
@@ -10,7 +10,7 @@ use Rattle.pybuf_desc.specs.CastChains.{Cast, Flat, Shaped, InColumns, after_cas
 use Rattle.pybuf_desc.proofs.Flat.{whole_items}
 use Rattle.pybuf_desc.proofs.ColumnCasts.{column_casts_counted}
 
--- where the first item starts
+-- where the first item starts, if there is one
 abbrev pub first_of : List ℕ → Option ℕ
 first_of [] = None
 first_of (start ∷ starts) = Some start
@@ -18,7 +18,7 @@ first_of (start ∷ starts) = Some start
 abbrev pub bytes_of_view : Layout → ℕ
 bytes_of_view view = length view.starts * view.itemsize
 
--- ---- a cast looks at the first start, the number of bytes and whether the view may only be read
+-- ---- a cast needs only the first start, the number of bytes, and whether the view may only be read
 
 abbrev pub run_from : Option ℕ → ℕ → ℕ → List ℕ
 run_from None size count = []
@@ -67,7 +67,7 @@ first_of_both : (xs ys : List ℕ) (n : ℕ) → first_of xs ≡ Some n → firs
 first_of_both [] ys n h = absurd (cc)
 first_of_both (x ∷ xs) ys n h = h
 
--- the factors of a product above 0 are
+-- if a product is above 0, so is its first factor
 first_factor : (n m : ℕ) → 0 < n * m → 0 < n
 first_factor zero m some = absurd (let none : 0 * m ≡ 0 = omega arith in omega (arith, none, some))
 first_factor (suc n) m some = omega arith
@@ -88,7 +88,7 @@ first_of_column_cast : (starts : List ℕ) (size : ℕ) (shape : List ℕ) → (
 first_of_column_cast [] size shape some = refl
 first_of_column_cast (first ∷ starts) size shape some = first_of_columns size shape first (some (omega arith))
 
--- how many items a cast has of so many bytes
+-- how many items a cast makes from so many bytes
 abbrev pub count_by : Cast → ℕ → ℕ
 count_by (Flat format size) bytes = bytes / size
 count_by (Shaped format size shape) bytes = product shape
@@ -99,7 +99,7 @@ whole_count (Flat format size) bytes some whole = whole_items bytes size some wh
 whole_count (Shaped format size shape) bytes some whole = sym whole
 whole_count (InColumns format size shape) bytes some whole = sym whole
 
--- where the view has items, so has the cast
+-- if the view has items, so has the cast
 some_count : (cast : Cast) (view : Layout) → 0 < view.itemsize → CanBeCast view cast → 0 < length view.starts → 0 < count_by cast (bytes_of_view view)
 some_count cast view sized can some =
     first_factor (count_by cast (bytes_of_view view)) (size_of_cast cast) (subst (λ n. 0 < n) (sym (whole_count cast (bytes_of_view view) can.some can.whole)) (mul-pos some sized))

@@ -19,9 +19,9 @@ all_each : {X : Type 0} (P Q : X → Type 0) (xs : List X) → AllByRecursion P 
 all_each P Q [] all each = tt
 all_each P Q (x ∷ xs) all each = (each x all.0, all_each P Q xs all.1 each)
 
--- ---- the places are a first one and whole sizes
+-- ---- the places lie a number of whole sizes after the first one
 
--- so many sizes after a place, fewer than a count
+-- a place lies a number of sizes after another, and this number is below a count
 abbrev IsStep : ℕ → ℕ → ℕ → ℕ → Type 0
 IsStep first size count place = (a : ℕ) × (a < count) × (place ≡ first + a * size)
 
@@ -65,7 +65,7 @@ column_casts_inside view format size shape room told some whole all = inside_fro
 
 -- ---- apart
 
--- in a block from `low` on
+-- a place lies in a block from `low` on
 abbrev IsBehind : ℕ → ℕ → ℕ → ℕ → ℕ → Type 0
 IsBehind first size n low place = (j : ℕ) × (c : ℕ) × (low ≤ j) × (j < n) × (place ≡ first + j * size + c * (size * n))
 

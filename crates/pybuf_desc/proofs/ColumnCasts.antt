@@ -56,7 +56,8 @@ no_suboffsets size (n ∷ shape) = All-cons (λ (dim : ℕ × ℤ × ℤ). dim.2
 
 -- ---- inside
 
--- so many blocks, each one step after the one before, where each lies inside that ends by `limit`
+-- There are so many blocks, each one step after the one before. A property holds in all of them if it holds in each
+-- block that ends by `limit`.
 blocks_inside : (P : ℤ → Type 0) (block : ℤ → List ℤ) (step len limit : ℕ) → ((q : ℤ) → pos 0 ≤ℤ q → (q +ℤ pos len) ≤ℤ pos limit → AllByRecursion P (block q))
     → (m : ℕ) (p : ℤ) → pos 0 ≤ℤ p → (p +ℤ pos (len + m * step)) ≤ℤ pos (limit + step) → AllByRecursion P (blocks_apart block m p (pos step))
 blocks_inside P block step len limit each zero p low high = tt
@@ -140,7 +141,7 @@ stands_column d format size shape can cast start view stands =
 
 -- ---- laws
 
--- a descriptor of these items
+-- some descriptor of these items
 abbrev some_column_cast : List ℕ → ℕ → List ℕ → Bool → Descriptor
 some_column_cast format size shape readonly =
     record { len = 0; readonly = readonly; itemsize = size; format = format; dims = column_major_dims size shape }
@@ -208,7 +209,7 @@ column_casts_counted view format size shape some = shape_from format size shape 
 
 -- ---- one more dimension
 
--- what a step over a shape knows and gives
+-- what a step over a shape needs, and what it gives
 pub record IsColumnStep (itemsize size n i : ℕ) (more : List (ℕ × ℤ × ℤ)) (shape : List ℕ) : Type 0 where
   pub size_is : size * n * product (drop (i + 1) shape) ≡ itemsize * product shape
   pub dims_are : more ++ column_major_dims (size * n) (drop (i + 1) shape) ≡ column_major_dims itemsize shape
@@ -232,7 +233,7 @@ all_drop zero shape all = all
 all_drop (suc i) [] all = All-nil (λ n. 0 < n)
 all_drop (suc i) (n ∷ shape) all = all_drop i shape (All-tail (λ m. 0 < m) n shape all)
 
--- the size of a step fits
+-- the size that a step reaches fits `isize`
 pub step_fits : (itemsize size i : ℕ) (shape : List ℕ) → All (λ n. 0 < n) shape → itemsize * product shape < 2 ^ 63 → size * product (drop i shape) ≡ itemsize * product shape → size < 2 ^ 63
 step_fits itemsize size i shape some fits e =
     let more : size ≤ size * product (drop i shape) = le-mul_of_pos_right size (some_product (drop i shape) (all_drop i shape some)) in

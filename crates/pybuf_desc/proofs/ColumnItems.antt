@@ -1,4 +1,4 @@
--- The items of a view in column order are items of it.
+-- The items of a view in column order are items of this view.
 use Rattle.std.proofs.Common.{◌≡◌, ℕ, zero, suc, ◌+◌, ◌*◌, ◌<◌, ◌≤◌, ℤ, pos, List, [], ◌∷◌, ◌++◌, length, map, flat_map, refl, ap, sym, ◌∙◌, subst, arith}
 use Rattle.std.specs.List.{All, AllByRecursion, range_with_len}
 use Rattle.std.proofs.lemmas.List.Elements.{All-from_recursion}
@@ -37,7 +37,7 @@ columns_inside room view counted inside =
     (all_mapped (λ indices. number_at view.shape indices < product view.shape) (λ start. start + view.itemsize ≤ room) (start_at view) (column_index_lists view.shape) (below view.shape)
     (λ indices small. inside (number_at view.shape indices) 0 (subst (λ (n : ℕ). number_at view.shape indices < n) (sym counted) small)))
 
--- nothing is left of a list of lists that is mapped over nothing
+-- a list of lists is empty if each of its lists is
 none_of : {X Y : Type 0} (f : X → List Y) (xs : List X) → ((x : X) → f x ≡ []) → flat_map f xs ≡ []
 none_of f [] each = refl
 none_of f (x ∷ xs) each = ap (λ ys. ys ++ flat_map f xs) (each x) ∙ none_of f xs each

@@ -36,7 +36,7 @@ length-lines n t [] = sym (zero-mul n)
 length-lines n t (p ∷ ps) =
     length-append (line p t n) (flat_map (λ q. line q t n) ps) ∙ (let one = length-line n p t in let rest = length-lines n t ps in omega (arith, one, rest))
 
--- a place for each item
+-- there is a place for each item
 pub length-column_places : (dims : List (ℕ × ℤ × ℤ)) (p : ℤ) → length (column_places dims p) ≡ product (shape_of dims)
 length-column_places [] p = refl
 length-column_places (dim ∷ dims) p =
@@ -49,7 +49,7 @@ line-run : (size n : ℕ) (q : ℤ) → line q (pos size) n ≡ run size q n
 line-run size zero q = refl
 line-run size (suc n) q = ap (λ (rest : List ℤ). q ∷ rest) (line-run size n (q +ℤ pos size))
 
--- runs that follow one another
+-- runs that follow one another make one run
 runs_of_run : (size n m : ℕ) (p : ℤ) → flat_map (λ q. line q (pos size) n) (run (size * n) p m) ≡ run size p (m * n)
 runs_of_run size n zero p = ap (λ k. run size p k) (sym (zero-mul n))
 runs_of_run size n (suc m) p =
@@ -57,7 +57,7 @@ runs_of_run size n (suc m) p =
     (runs_of_run size n m (p +ℤ pos (size * n)) ∙ ap (λ q. run size q (m * n)) (let e : p +ℤ pos (size * n) ≡ p +ℤ pos (n * size) = ap (λ (k : ℕ). p +ℤ pos k) (mul_comm size n) in e))
     ∙ sym (run-add size n (m * n) p) ∙ ap (λ k. run size p k) (let e : n + m * n ≡ suc m * n = omega arith in e)
 
--- the stride of one entry leads nowhere
+-- the stride of a dimension with one entry doesn't matter
 line_fits : (n : ℕ) (q t s : ℤ) → (1 < n → t ≡ s) → line q t n ≡ line q s n
 line_fits zero q t s fit = refl
 line_fits (suc zero) q t s fit = refl
@@ -131,7 +131,7 @@ run_from_column size dims p e =
 pub column_without_items : (size : ℕ) (dims : List (ℕ × ℤ × ℤ)) (start : ℤ) → product (shape_of dims) ≡ 0 → IsContiguous size start (column_places dims start)
 column_without_items size dims start e = no_place size start (column_places dims start) (length-column_places dims start ∙ e)
 
--- with items, places without a gap are column-major strides
+-- if there are items, their places lie without a gap exactly if the strides are column-major
 pub column_by_strides : (size : ℕ) (dims : List (ℕ × ℤ × ℤ)) (start : ℤ) → AreNonzero dims → AreColumnMajorStrides size dims ↔ IsContiguous size start (column_places dims start)
 column_by_strides size dims start some = (
   λ fit. column_without_a_gap size dims start (column_from_strides size dims fit start),

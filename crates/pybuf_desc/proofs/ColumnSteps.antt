@@ -15,7 +15,7 @@ nonzero-drop zero dims some = some
 nonzero-drop (suc k) [] some = tt
 nonzero-drop (suc k) (dim ∷ dims) some = nonzero-drop k dims some.1
 
--- the size of the dimensions from k on, of which the whole is made
+-- the size from which the dimensions from k on make the whole fits `isize`
 pub column_size : (size itemsize k : ℕ) (dims : List (ℕ × ℤ × ℤ)) → All (λ dim. 0 < dim.0) dims → itemsize * product (shape_of dims) < 2 ^ 63 → size * product (shape_of (drop k dims)) ≡ itemsize * product (shape_of dims) → size < 2 ^ 63
 column_size size itemsize k dims some fits whole =
     let more : size ≤ size * product (shape_of (drop k dims)) = le-mul_of_pos_right size (product-pos (drop k dims) (nonzero-drop k dims (AreNonzero-from_All dims some))) in
@@ -30,7 +30,7 @@ pub next_column_size : (size itemsize k : ℕ) (dims : List (ℕ × ℤ × ℤ))
 next_column_size size itemsize k dims h some fits whole =
     column_size (size * (dim_at dims k).0) itemsize (k + 1) dims some fits (sym (next_column size k dims h) ∙ whole)
 
--- one dimension on
+-- what is known of this size still holds one dimension further on
 pub column_kept : (size next itemsize k : ℕ) (dims : List (ℕ × ℤ × ℤ)) → k < length dims → size * product (shape_of (drop k dims)) ≡ itemsize * product (shape_of dims)
     → AreColumnMajorStrides itemsize dims ↔ AreColumnMajorStrides size (drop k dims) → (1 < (dim_at dims k).0 → (dim_at dims k).1 ≡ pos size) → next ≡ size * (dim_at dims k).0
     → (next * product (shape_of (drop (k + 1) dims)) ≡ itemsize * product (shape_of dims)) × (AreColumnMajorStrides itemsize dims ↔ AreColumnMajorStrides next (drop (k + 1) dims))
@@ -42,6 +42,6 @@ column_kept size next itemsize k dims h whole alike fit e = (
   ),
 )
 
--- a dimension of one entry leaves the size as it is
+-- a dimension with one entry leaves the size as it is
 pub column_alone : (size n : ℕ) → 0 < n → (1 < n → ⊥) → size ≡ size * n
 column_alone size n some few = (let once : size ≡ size * 1 = omega arith in once) ∙ ap (λ (m : ℕ). size * m) (one_of n some few)

@@ -36,7 +36,7 @@ pub map_same : {X A : Type 0} (f g : X → A) (xs : List X) → ((x : X) → f x
 map_same f g [] e = refl
 map_same f g (x ∷ xs) e = ap₂ (λ y ys. y ∷ ys) (e x) (map_same f g xs e)
 
--- two maps that agree where something holds
+-- two maps agree on a list if they agree wherever a property holds, and it holds of the whole list
 map_where : {X A : Type 0} (P : X → Type 0) (f g : X → A) (xs : List X) → AllByRecursion P xs → ((x : X) → P x → f x ≡ g x) → map f xs ≡ map g xs
 map_where P f g [] all e = refl
 map_where P f g (x ∷ xs) all e = ap₂ (λ y ys. y ∷ ys) (e x all.0) (map_where P f g xs all.1 e)
@@ -65,7 +65,7 @@ column_indices (dim ∷ dims) =
 index_moves : (p a b : ℤ) → p +ℤ a +ℤ b ≡ p +ℤ (b +ℤ a)
 index_moves p a b = omega (arith, ints)
 
--- the place at each of the indices
+-- the places in column order are the places at the indices in column order
 pub column_places_by_indices : (dims : List (ℕ × ℤ × ℤ)) (p : ℤ) → column_places dims p ≡ map (λ indices. p +ℤ offset_of indices dims) (column_index_lists (shape_of dims))
 column_places_by_indices [] p = ap (λ (q : ℤ). q ∷ []) (let e : p ≡ p +ℤ pos 0 = omega (arith, ints) in e)
 column_places_by_indices (dim ∷ dims) p =
@@ -132,7 +132,7 @@ told_by_columns size (s ∷ starts) columns start rows ps at first same count =
     let test : Decides (bytes_eq columns run) (columns ≡ run) = bytes_eq-Decides columns run in
     (λ flat. some_told s starts (bytes_eq columns run) ∙ test.1 (both.0 flat), λ told. both.1 (test.0 (sym (some_told s starts (bytes_eq columns run)) ∙ told)))
 
--- the places in column order lie without a gap exactly where the items of the view do
+-- the places in column order lie without a gap exactly if the items of the view do
 pub columns_alike : (d : Descriptor) (start : ℕ) (view : Layout) → Stands d start view → (IsContiguous d.itemsize (pos start) (column_places d.dims (pos start))) ↔ (is_f_contiguous_layout view ≡ true)
 columns_alike d start view stands =
     subst (λ (size : ℕ). (IsContiguous d.itemsize (pos start) (column_places d.dims (pos start))) ↔ (told_of view.starts size (column_starts view) ≡ true)) stands.itemsize

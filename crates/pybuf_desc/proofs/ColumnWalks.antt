@@ -25,7 +25,7 @@ use Rattle.pybuf_desc.proofs.SegmentFacts.{both, inside_more, top}
 use Rattle.pybuf_desc.proofs.ColumnRuns.{column_places-cons, length-column_places}
 use Rattle.pybuf_desc.proofs.ColumnViews.{all-append, column_indices, column_places_by_indices}
 
--- ---- the dimensions, the last first
+-- ---- the dimensions, with the last one first
 
 pub reverse_cons : {X : Type 0} (x : X) (xs : List X) → reverse (x ∷ xs) ≡ reverse xs ++ x ∷ []
 reverse_cons x xs = reverse-append (x ∷ []) xs
@@ -35,7 +35,7 @@ take_set [] k x h = absurd (omega (arith, h))
 take_set (y ∷ ys) zero x h = refl
 take_set (y ∷ ys) (suc k) x h = ap (λ zs. y ∷ zs) (take_set ys k x (omega (arith, h)))
 
--- one more dimension is put
+-- one more dimension is added
 pub one_more : (dims turned : List (ℕ × ℤ × ℤ)) (count k : ℕ) → 0 < k → k ≤ length dims → count < length turned → take count turned ≡ reverse (drop k dims)
     → take (count + 1) (set turned count (dim_at dims (k - 1))) ≡ reverse (drop (k - 1) dims)
 one_more dims turned count k some few room e =
@@ -44,7 +44,7 @@ one_more dims turned count k some few room e =
     ∙ ap (λ ds. ds ++ dim_at dims (k - 1) ∷ []) e
     ∙ sym (ap reverse (drop_before dims k some few) ∙ reverse_cons (dim_at dims (k - 1)) (drop k dims))
 
--- column order is row-major order of the dimensions, the last first
+-- column order is the row-major order of the dimensions with the last one first
 pub places_turned : (dims : List (ℕ × ℤ × ℤ)) (p : ℤ) → places (reverse dims) p ≡ column_places dims p
 places_turned [] p = refl
 places_turned (dim ∷ dims) p =

@@ -1,4 +1,4 @@
--- Blocks of places, cut out and blocks_apart down again.
+-- Blocks of places are cut out, and put down again one after the other.
 use Rattle.std.proofs.Common.{◌≡◌, ℕ, zero, suc, ◌+◌, ◌<◌, ◌≤◌, ℤ, pos, negsuc, ◌+ℤ◌, ◌*ℤ◌, ◌≤ℤ◌, ◌<ℤ◌, ◌-ℤ◌, ◌-◌, nat_abs, Bool, true, false, cond, List, [], ◌∷◌, refl, sym, ◌∙◌, subst, arith}
 use Rattle.std.proofs.lemmas.Int.{ints}
 use Rattle.pybuf_index.specs.Picks.{steps_to, comes_before}

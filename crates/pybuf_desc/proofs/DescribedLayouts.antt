@@ -122,7 +122,7 @@ same_run size (s ∷ starts) start ps same first =
 pub first_place : (d : Descriptor) (start : ℤ) → 0 < length (places d.dims start) → get_or (places d.dims start) 0 (pos 0) ≡ start
 first_place d start some = first-places d.dims start (pos 0) (some_entries d.dims (subst (λ (n : ℕ). 0 < n) (length-places d.dims start) some))
 
--- the places of the descriptor lie without a gap exactly where those of its view do
+-- the places of the descriptor lie without a gap exactly if those of its view do
 pub runs_alike : (d : Descriptor) (start : ℕ) (view : Layout) → Stands d start view → (IsContiguous d.itemsize (pos start) (places d.dims (pos start))) ↔ (view.starts ≡ starts_from view.starts view.itemsize (length view.starts))
 runs_alike d start view stands =
     subst (λ (size : ℕ). (IsContiguous d.itemsize (pos start) (places d.dims (pos start))) ↔ (view.starts ≡ starts_from view.starts size (length view.starts))) stands.itemsize
@@ -143,7 +143,7 @@ by_count size (suc n) dims start from count flat =
     let entries = some_entries dims some in
     (contiguous_by_strides size dims from entries).0 ((contiguous_by_strides size dims start entries).1 flat)
 
--- what is without a gap from one start is so from any
+-- items that lie without a gap from one start do so from any start
 pub contiguous_anywhere : (d : Descriptor) (start from : ℤ) → IsContiguous d.itemsize start (places d.dims start) → IsContiguous d.itemsize from (places d.dims from)
 contiguous_anywhere d start from flat = by_count d.itemsize (product (shape_of d.dims)) d.dims start from refl flat
 

@@ -35,7 +35,7 @@ inside_flat size (suc n) len start room some e h =
     (inside_from_reach size room ((suc n, pos size, pos 0) ∷ []) (pos start)
     (record { least = reach_back n start; greatest = reach_forth size n len start room e (h (some_bytes size n len some e)) }))
 
--- where the bytes, if there are any, lie inside from this start on
+-- a descriptor of one dimension is valid if its bytes, if there are any, lie inside from this start on
 pub valid_flat_at : (format : List ℕ) (size count len start room : ℕ) (readonly : Bool) → 0 < size → size < 2 ^ 63 → count * size ≡ len → len < 2 ^ 63 → (0 < len → start + len ≤ room) → IsValid (flat_descriptor format size count readonly) start room
 valid_flat_at format size count len start room readonly some fits e len_fits inside =
     record {

@@ -23,7 +23,7 @@ is_place (Some k) f i e = ap Some (let same : k ≡ i = cc in same)
 pub index_below : (n : ℕ) (z : ℤ) (i : ℕ) → entry_in n z ≡ Ok i → i < n
 index_below n z i e = below n z i (is_place (item_place n z) fault.Index i e)
 
--- the first dimension's step
+-- the step of the first dimension
 abbrev pub after_first : Result ℕ Fault → ℤ → Result ℤ Fault → Result ℤ Fault
 after_first (Ok i) stride (Ok others) = Ok (pos i *ℤ stride +ℤ others)
 after_first (Ok i) stride (Err f) = Err f

@@ -1,4 +1,4 @@
--- All bytes of all items lie inside exactly where those of the least and of the greatest place do.
+-- All bytes of all items lie inside exactly if those at the least and at the greatest place do.
 use Rattle.std.proofs.Common.{◌≡◌, ℕ, zero, suc, ◌+◌, ◌-◌, ◌*◌, ◌<◌, ◌≤◌, ℤ, pos, negsuc, ◌+ℤ◌, ◌≤ℤ◌, List, [], ◌∷◌, ◌++◌, length, get_or, drop, drop-cons, refl, ap, sym, subst, arith, IsTrue, true, false, ◌↔◌, All, unsigned_abs, true≢false}
 use Rattle.std.proofs.lemmas.List.Elements.{All-from_recursion, recursion_from_All}
 use Rattle.std.proofs.lemmas.Int.{ints}
@@ -20,7 +20,7 @@ pub ByRec-right : {X : Type 0} (P : X → Type 0) (xs ys : List X) → AllByRecu
 ByRec-right P [] ys h = h
 ByRec-right P (x ∷ xs) ys h = ByRec-right P xs ys h.1
 
--- how far a stride leads back, and forth
+-- how far a stride leads back, and how far it leads forth
 abbrev pub back : ℤ → ℕ
 back (pos n) = 0
 back (negsuc n) = suc n
@@ -43,7 +43,7 @@ abbrev pub forth_reach : List (ℕ × ℤ × ℤ) → ℕ
 forth_reach [] = 0
 forth_reach (dim ∷ dims) = gaps dim.0 * forth dim.1 + forth_reach dims
 
--- from `p` on, `a` back and `b` forth with an item's size stays inside
+-- an item that lies `a` back from `p` and one that lies `b` forth stay inside
 pub record Reaches (size room a b : ℕ) (p : ℤ) : Type 0 where
   pub least : pos a ≤ℤ p
   pub greatest : (p +ℤ pos (b + size)) ≤ℤ pos room
@@ -128,7 +128,7 @@ gaps_is : (n : ℕ) → gaps n ≡ n - 1
 gaps_is zero = omega arith
 gaps_is (suc n) = omega arith
 
--- a dimension whose `n` entries lead further than is left on both sides
+-- the `n` entries of a dimension can't stay inside if they lead further than there is room on either side
 pub too_far : (n : ℕ) (z : ℤ) (before after most : ℕ) → before ≤ most → after ≤ most → (((n - 1) * unsigned_abs z ≤ most) → ⊥) → (gaps n * back z ≤ before → gaps n * forth z ≤ after → ⊥)
 too_far n (pos k) before after most b a far low high = far (rw (← gaps_is n) (omega (arith, high, a)))
 too_far n (negsuc k) before after most b a far low high = far (rw (← gaps_is n) (omega (arith, low, b)))

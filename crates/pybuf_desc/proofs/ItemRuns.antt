@@ -133,7 +133,7 @@ rest_of count size len some e =
     let times : len / size * size ≡ count * size = ap (λ (n : ℕ). n * size) (quotient_is count size len some e) in
     omega (arith, whole, times, e)
 
--- the places are those of the cast to one dimension
+-- these places are those of the cast to one dimension
 same_starts : (view : Layout) (size : ℕ) (shape : List ℕ) → 0 < size → length view.starts * view.itemsize ≡ product shape * size → starts_from view.starts size (cast_count view size) ≡ starts_from view.starts size (product shape)
 same_starts view size shape some whole = ap (starts_from view.starts size) (quotient_is (product shape) size (length view.starts * view.itemsize) some whole)
 

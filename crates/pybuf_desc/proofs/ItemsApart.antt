@@ -1,4 +1,4 @@
--- Items of which no two share a byte.
+-- Views in which no two items share a byte.
 use Rattle.std.proofs.Common.{◌≡◌, ◌≢◌, ◌⊎◌, inl, inr, ℕ, zero, suc, ◌+◌, ◌*◌, ◌/◌, ◌<◌, ◌≤◌, ℤ, pos, negsuc, List, [], ◌∷◌, ◌++◌, length, map, take, drop, get_or-take, get_or-drop, length-take, length-drop, All, AllPairs, IsTrue, sym, ◌∙◌, subst, arith}
 use Rattle.std.proofs.lemmas.Int.{ints}
 use Rattle.std.proofs.lemmas.Bool.{cases_lt}
@@ -20,7 +20,7 @@ use Rattle.pybuf_desc.specs.Casts.{cast_count}
 pub next_after : (i j size : ℕ) → i < j → i * size + size ≤ j * size
 next_after i j size less = grind arith
 
--- item k starts at a place plus k sizes
+-- items are apart if item k starts at a place plus k sizes
 of_places : (size first : ℕ) (starts : List ℕ) → ((k : ℕ) → k < length starts → slice_index starts k ≡ first + k * size) → AreApart size starts
 of_places size first starts at i j less inside =
     let ends : i * size + size ≤ j * size = next_after i j size less in
@@ -100,7 +100,7 @@ spread-append size (x ∷ xs) ys left right between = (
 
 -- ---- blocks
 
--- what holds of each start at a place of a block holds of the block
+-- a property of each start at a place of a block holds of the block
 of_block : (P : ℕ → Type 0) (width : ℕ) (starts : List ℕ) (i : ℕ) → ((m : ℕ) → i * width ≤ m → m < i * width + width → m < length starts → P (slice_index starts m)) → All P (block_at width starts i)
 of_block P width starts i each =
     All-from_get_or P (block_at width starts i) 0
@@ -116,7 +116,7 @@ either_way : (a b c d : ℕ) → (a ≤ b) ⊎ (c ≤ d) → (c ≤ d) ⊎ (a �
 either_way a b c d (inl x) = inr x
 either_way a b c d (inr x) = inl x
 
--- items at different numbers
+-- items with different numbers share no byte
 clear_at : (size : ℕ) (starts : List ℕ) (m n : ℕ) → AreApart size starts → m ≢ n → m < length starts → n < length starts → Clear size (slice_index starts m) (slice_index starts n)
 clear_at size starts m n apart other here there =
     elim (cases_lt m n) [
@@ -133,7 +133,7 @@ other_places width i j m n other low high low' high' same =
       | inr more ↦ let less : j < i = omega (arith, more, other) in let ends = next_after j i width less in omega (arith, ends, low, high, low', high', same)
     ]
 
--- an item of a block, and those of the blocks at other indices
+-- an item of a block shares no byte with the items of the blocks at other indices
 block_clear : (size width : ℕ) (starts : List ℕ) (m i : ℕ) (picks : List ℕ) → AreApart size starts → i * width ≤ m → m < i * width + width → m < length starts → All (λ j. i ≢ j) picks
     → All (Clear size (slice_index starts m)) (flat_map (λ j. block_at width starts j) picks)
 block_clear size width starts m i [] apart low high here others = All-nil (Clear size (slice_index starts m))
@@ -143,7 +143,7 @@ block_clear size width starts m i (j ∷ picks) apart low high here others =
     (λ n low' high' there. clear_at size starts m n apart (other_places width i j m n (All-head (λ k. i ≢ k) j picks others) low high low' high') here there))
     (block_clear size width starts m i picks apart low high here (All-tail (λ k. i ≢ k) j picks others))
 
--- no index comes twice
+-- no index stands twice in a list
 abbrev AreOnce : List ℕ → Type 0
 AreOnce [] = Unit {0}
 AreOnce (i ∷ picks) = All (λ j. i ≢ j) picks × AreOnce picks

@@ -48,7 +48,7 @@ from_row rows indices row_place has_row place stride left row_len size none walk
     subst (λ (n : ℕ). IsWalk rows indices row_place has_row place stride n row_len size) (sym none)
     (let here : IsWalk rows indices row_place has_row place stride 0 row_len size = record { row = walk.row; row_some = walk.row_some; inside = walk.inside } in here)
 
--- what it has left
+-- what such a walk has left
 pub left_at_row : (rows : List (ℕ × ℤ × ℤ)) (indices : List ℕ) (row_place : ℕ) (has_row : Bool) (place : ℕ) (stride : ℤ) (left row_len size : ℕ) → left ≡ 0 → has_row ≡ true
     → map (range_at size) (places_left place stride left row_len (rows_left rows indices row_place has_row)) ≡ map (range_at size) (rows_places stride row_len (rows_left rows indices row_place true))
 left_at_row rows indices row_place has_row place stride left row_len size none more =

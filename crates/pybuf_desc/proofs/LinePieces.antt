@@ -21,7 +21,7 @@ all_right P xs ys all = λ k d below.
     let within : length xs + k < length (xs ++ ys) = omega (arith, below, length-append xs ys) in
     subst P (get_or-append-add xs ys k d) (all (length xs + k) d within)
 
--- what holds of each byte of all ranges holds of each of one
+-- what holds of each byte of all ranges holds of each byte of one range
 range_all : (P : ℕ → Type 0) (range : ℕ → Range ℕ) (j n k : ℕ) → All P (flat_map bytes_of (map range (range_with_len j n))) → k < n → All P (bytes_of (range (j + k)))
 range_all P range j zero k all less = absurd (omega (arith, less))
 range_all P range j (suc n) zero all less =
@@ -33,7 +33,7 @@ range_all P range j (suc n) (suc k) all less =
     subst (λ i. All P (bytes_of (range i))) same
     (range_all P range (j + 1) n k (all_right P (bytes_of (range j)) (flat_map bytes_of (map range (range_with_len (j + 1) n))) all) fewer)
 
--- the last byte of a range is below the room, and so its end is at most the room
+-- the last byte of a range is below the room, so its end is at most the room
 range_ends : (place size room : ℕ) → 0 < size → All (λ p. p < room) (range_with_len place ((place + size) - place)) → place + size ≤ room
 range_ends place size room some all =
     let n : ℕ = (place + size) - place in

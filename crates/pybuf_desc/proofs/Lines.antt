@@ -9,7 +9,7 @@ use Rattle.pybuf_desc.specs.RowMajor.{AreRowMajorStrides}
 use Rattle.pybuf_desc.proofs.Steps.{blocks_apart, places-cons}
 use Rattle.pybuf_desc.proofs.Runs.{run, places_from_strides}
 
--- a line is a last dimension
+-- a last dimension is a line
 line-blocks_apart : (n : ℕ) (p t : ℤ) → blocks_apart (λ q. q ∷ []) n p t ≡ line p t n
 line-blocks_apart zero p t = refl
 line-blocks_apart (suc n) p t = ap (λ (xs : List ℤ). p ∷ xs) (line-blocks_apart n (p +ℤ t) t)
@@ -39,7 +39,7 @@ pub each_the_same : (f g : ℤ → List ℤ) → ((q : ℤ) → f q ≡ g q) →
 each_the_same f g e [] = refl
 each_the_same f g e (p ∷ ps) = ap₂ (λ (xs ys : List ℤ). xs ++ ys) (e p) (each_the_same f g e ps)
 
--- and those of the rows, each with its line
+-- the places are those of the rows, each with its line
 pub places-rows : (rows : List (ℕ × ℤ × ℤ)) (last : ℕ × ℤ × ℤ) (p : ℤ) → places (rows ++ last ∷ []) p ≡ flat_map (λ q. line q last.1 last.0) (places rows p)
 places-rows rows last p = places-blocks rows (last ∷ []) p ∙ each_the_same (places (last ∷ [])) (λ q. line q last.1 last.0) (places-line last) (places rows p)
 

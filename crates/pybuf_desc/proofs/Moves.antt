@@ -1,9 +1,9 @@
--- The code's step of the sum, which goes over bits, is the step of the definition.
+-- The step of the sum in the code goes over bits, and is the step of the definition.
 use Rattle.std.proofs.Common.{◌≡◌, ℕ, ◌^◌, ◌<◌, ℤ, pos, ◌+ℤ◌, ◌*ℤ◌, List, length, get_or, drop, drop-cons, suc, ◌+◌, add-one, ap, ap₂, sym, ◌∙◌, subst, arith, SFits, w64, to_z, of_z}
 use Rattle.std.proofs.lemmas.Int.{ints, to_z_pos, to_z-of_z}
 use Rattle.pybuf_desc.proofs.Track.{Track, Step, step}
 
--- index times stride, as the code has it
+-- index times stride, as the code computes it
 abbrev pub product_bits : ℕ → ℤ → ℤ
 product_bits index stride = to_z w64 index *ℤ to_z w64 (of_z w64 stride)
 

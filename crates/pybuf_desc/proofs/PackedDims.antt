@@ -32,7 +32,7 @@ later_from i (dim ∷ dims) later =
 
 -- ---- one more dimension
 
--- what a step over the dimensions knows and gives
+-- what a step over the dimensions needs, and what it gives
 pub record IsPackedStep (itemsize next n i : ℕ) (dims made more : List (ℕ × ℤ × ℤ)) : Type 0 where
   pub size_is : next ≡ itemsize * extent_of (drop (i + 1) dims)
   pub size_fits : next < 2 ^ 63

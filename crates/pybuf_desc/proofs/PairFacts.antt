@@ -17,7 +17,7 @@ use Rattle.pybuf_desc.proofs.SegmentFacts.{asked, range_bytes}
 
 -- ---- as many ranges on both sides
 
--- so many ranges of one size, or none without items
+-- so many ranges of one size, or none if there are no items
 abbrev pub ranges_in : ℕ → ℕ → List ℤ → List (Range ℕ)
 ranges_in items size ps = cond (eqb items 0) [] (map (range_at size) ps)
 

@@ -5,7 +5,7 @@ use Rattle.pybuf_desc.specs.Layouts.{product}
 use Rattle.pybuf_desc.specs.Descriptor.{shape_of}
 use Rattle.pybuf_desc.specs.Valid.{nonzero_entries}
 
--- the product of the entries that aren't 0
+-- the product of the entries that are not 0
 abbrev pub extent_of : List (ℕ × ℤ × ℤ) → ℕ
 extent_of dims = product (nonzero_entries (shape_of dims))
 
@@ -45,7 +45,7 @@ product_at (dim ∷ dims) (suc i) d h e = ap (λ (n : ℕ). dim.0 * n) (product_
 pub product-zero : (dims : List (ℕ × ℤ × ℤ)) → Any (λ dim. dim.0 ≡ 0) dims → product (shape_of dims) ≡ 0
 product-zero dims h = product_at dims h.0 h.1 h.2 (ap (λ (d : ℕ × ℤ × ℤ). d.0) h.3 ∙ h.4)
 
--- each entry of the shape is above 0
+-- each entry of the dimensions is above 0
 abbrev pub AreNonzero : List (ℕ × ℤ × ℤ) → Type 0
 AreNonzero [] = Unit {0}
 AreNonzero (dim ∷ dims) = (0 < dim.0) × AreNonzero dims

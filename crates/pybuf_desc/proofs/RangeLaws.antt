@@ -18,7 +18,7 @@ use Rattle.pybuf_desc.proofs.Strides.{some_entries}
 use Rattle.pybuf_desc.proofs.DescribedLayouts.{starts_of_stands}
 use Rattle.pybuf_desc.proofs.SegmentFacts.{not_none, range_bytes}
 
--- ---- and so the bytes of the items
+-- ---- so the bytes of the items are inside
 
 -- the bytes at places
 abbrev pub bytes_at_places : List ℕ → List ℕ → List ℕ
@@ -67,7 +67,7 @@ items_inside room size (s ∷ starts) all =
     All-append (λ place. place < room) (range_with_len s size) (flat_map (λ place. range_with_len (nat_abs place) size) (map (λ x. pos x) starts))
     (run_inside room s size (All-head (λ start. start + size ≤ room) s starts all)) (items_inside room size starts (All-tail (λ start. start + size ≤ room) s starts all))
 
--- a range's last byte lies inside; a range without bytes must end inside by its start
+-- a range with bytes ends inside if each of its bytes lies inside
 range_ends : (room size : ℕ) (p : ℤ) → 0 < size → All (λ place. place < room) (bytes_of (range_at size p)) → nat_abs p + size ≤ room
 range_ends room size p some all =
     let n : ℕ = nat_abs p + size - nat_abs p in

@@ -1,4 +1,4 @@
--- The next row, by an index for each dimension.
+-- How the next row is found, with an index for each dimension.
 use Rattle.std.proofs.Common.{◌≡◌, ℕ, zero, suc, ◌+◌, ◌-◌, ◌*◌, ◌^◌, ◌<◌, ◌≤◌, ℤ, pos, ◌+ℤ◌, ◌-ℤ◌, ◌*ℤ◌, ◌≤ℤ◌, true, false, List, [], ◌∷◌, length, get_or, set, replicate, take, drop, drop-cons, drop_of_length-le, refl, ap, ap₂, sym, ◌∙◌, subst, arith, Some, slice_get, SFits, w64, add-one, zero-mul}
 use Rattle.std.proofs.lemmas.Int.{ints}
 use Rattle.std.specs.List.{AllByRecursion}
@@ -101,8 +101,8 @@ entry_fits (dim ∷ dims) (suc k) h all = entry_fits dims k (omega arith) all.1
 
 -- ---- the carry
 
--- The indices from k on went back to 0, so the row before them is the last of its block: one row
--- more would be the first of the next block.
+-- The indices from k on went back to 0. So the row before them is the last of its block, and one more row would be the
+-- first of the next block.
 pub record Carried (rows : List (ℕ × ℤ × ℤ)) (old : List ℕ) (first : ℕ) (indices : List ℕ) (place k : ℕ) : Type 0 where
   pub below : k ≤ length rows
   pub row : IsRow rows indices place

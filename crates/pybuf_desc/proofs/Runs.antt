@@ -32,14 +32,14 @@ run-add size (suc m) n p =
     ap (λ k. run size p k) (let e : suc m + n ≡ suc (m + n) = omega arith in e)
     ∙ ap (λ rest. p ∷ rest) (run-add size m n (p +ℤ pos size) ∙ ap (λ q. run size (p +ℤ pos size) m ++ run size q n) (let e : p +ℤ pos size +ℤ pos (m * size) ≡ p +ℤ pos (suc m * size) = omega (arith, ints) in e))
 
--- blocks that are runs, as far apart as they are long
+-- blocks that are runs make one run, if they are as far apart as they are long
 blocks_of_runs : (size len : ℕ) (block : ℤ → List ℤ) → ((q : ℤ) → block q ≡ run size q len) → (n : ℕ) (p : ℤ) → blocks_apart block n p (pos (size * len)) ≡ run size p (n * len)
 blocks_of_runs size len block each zero p = ap (λ k. run size p k) (sym (zero-mul len))
 blocks_of_runs size len block each (suc n) p =
     ap₂ (λ xs ys. xs ++ ys) (each p) (blocks_of_runs size len block each n (p +ℤ pos (size * len)) ∙ ap (λ q. run size q (n * len)) (let e : p +ℤ pos (size * len) ≡ p +ℤ pos (len * size) = omega (arith, ints) in e))
     ∙ sym (run-add size len (n * len) p) ∙ ap (λ k. run size p k) (let e : len + n * len ≡ suc n * len = omega arith in e)
 
--- at most one block: its stride leads nowhere
+-- if there is at most one block, its stride doesn't matter
 blocks_few : (size len : ℕ) (block : ℤ → List ℤ) → ((q : ℤ) → block q ≡ run size q len) → (n : ℕ) (p t : ℤ) → n ≤ 1 → blocks_apart block n p t ≡ run size p (n * len)
 blocks_few size len block each zero p t few = ap (λ k. run size p k) (sym (zero-mul len))
 blocks_few size len block each (suc zero) p t few = append-nil (block p) ∙ each p ∙ ap (λ k. run size p k) (let e : len ≡ 1 * len = omega arith in e)
@@ -80,7 +80,7 @@ first-blocks_apart block (suc n) p t d some h = first-append (block p) (blocks_a
 some_places : (dims : List (ℕ × ℤ × ℤ)) (p : ℤ) → AreNonzero dims → 0 < length (places dims p)
 some_places dims p some = rw (length-places dims p) (product-pos dims some)
 
--- where each dimension has an entry, the first place is the start
+-- if each dimension has an entry, the first place is the start
 pub first-places : (dims : List (ℕ × ℤ × ℤ)) (p d : ℤ) → AreNonzero dims → get_or (places dims p) 0 d ≡ p
 first-places [] p d some = refl
 first-places (dim ∷ dims) p d some =
@@ -94,7 +94,7 @@ first-run size (suc n) p d h = refl
 gap_from : (p t : ℤ) (size len : ℕ) → p +ℤ t ≡ p +ℤ pos (len * size) → t ≡ pos (size * len)
 gap_from p t size len e = omega (arith, ints)
 
--- two blocks that make one run are as far apart as they are long
+-- if two blocks make one run, they are as far apart as they are long
 blocks_gap : (size : ℕ) (dims : List (ℕ × ℤ × ℤ)) → AreNonzero dims → (m : ℕ) (p t : ℤ) → 0 < m
     → blocks_apart (places dims) m (p +ℤ t) t ≡ run size (p +ℤ pos (product (shape_of dims) * size)) (m * product (shape_of dims)) → t ≡ pos (size * product (shape_of dims))
 blocks_gap size dims some m p t h e =

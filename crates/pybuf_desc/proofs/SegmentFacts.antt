@@ -1,4 +1,4 @@
--- What the ranges of a walk are: blocks of items, and the bytes of the items in order.
+-- What the ranges of a walk are. They are blocks of items, and have the bytes of the items in order.
 use Rattle.std.proofs.Common.{◌≡◌, ℕ, zero, suc, ◌+◌, ◌-◌, ◌*◌, ◌^◌, ◌<◌, ◌≤◌, ℤ, pos, negsuc, ◌+ℤ◌, ◌≤ℤ◌, nat_abs, cond, eqb, List, [], ◌∷◌, ◌++◌, length, take-append-drop, map, flat_map, refl, ap, ap₂, sym, ◌∙◌, subst, arith, length-append, mul_comm, lit<, All}
 use Rattle.std.proofs.lemmas.Int.{ints}
 use Rattle.std.proofs.lemmas.Grind.{flat_map-append}
@@ -51,7 +51,7 @@ rows_whole size (suc n) (p ∷ ps) h all = (
   rows_whole size (suc n) ps h (ByRec-right (IsInside size top) (line p (pos size) (suc n)) (flat_map (λ q. line q (pos size) (suc n)) ps) all),
 )
 
--- ---- dimensions of which the last are split off
+-- ---- dimensions from which the last ones are split off
 
 split_all : {X : Type 0} (P : X → Type 0) (xs ys : List X) → AllByRecursion P (xs ++ ys) → AllByRecursion P xs × AllByRecursion P ys
 split_all P xs ys all = (ByRec-left P xs ys all, ByRec-right P xs ys all)
@@ -93,7 +93,7 @@ ranges_by_rows rows last outer start size stride is st =
     ap (λ (t : ℤ). map (range_at size) (row_places rows start t last.0)) st
     ∙ ap (λ (ps : List ℤ). map (range_at size) ps) (sym (ap (λ (ds : List (ℕ × ℤ × ℤ)). places ds (pos start)) is ∙ places-rows rows last (pos start)))
 
--- one block alone is a row of one
+-- a single block is a row of one
 pub walk_of_one : (outer : List (ℕ × ℤ × ℤ)) (start size : ℕ) → length outer ≤ 64 → HasPlaces outer (pos start) → AllByRecursion (IsInside size top) (places outer (pos start)) → AreRows outer start (pos 0) 1 size
 walk_of_one outer start size few placed inside =
     record { few = few; placed = placed; row_some = lit< tt; inside = subst (AllByRecursion (IsInside size top)) (sym (ones (pos 0) (places outer (pos start)))) inside }
@@ -101,7 +101,7 @@ walk_of_one outer start size few placed inside =
 pub ranges_of_one : (outer : List (ℕ × ℤ × ℤ)) (start size : ℕ) → map (range_at size) (row_places outer start (pos 0) 1) ≡ map (range_at size) (places outer (pos start))
 ranges_of_one outer start size = ap (λ (ps : List ℤ). map (range_at size) ps) (ones (pos 0) (places outer (pos start)))
 
--- ---- a descriptor of which so many of the last dimensions are joined
+-- ---- a descriptor of which so many last dimensions are joined
 
 pub record IsJoined (d : Descriptor) (start joined : ℕ) : Type 0 where
   pub placed : IsPlaced d start
@@ -172,7 +172,7 @@ ranges_are_blocks d start joined size r is =
     ap (λ (n : ℕ). map (range_at n) (places (outer_dims joined d.dims) (pos start))) (is ∙ mul_comm d.itemsize (block_count d joined))
     ∙ sym (not_none (product (shape_of d.dims)) (map (range_at (block_count d joined * d.itemsize)) (places (outer_dims joined d.dims) (pos start))) (product-pos d.dims r.some))
 
--- without an item there is no range
+-- if there is no item, there is no range
 pub asked_none : (d : Descriptor) (start : ℤ) (joined : ℕ) → product (shape_of d.dims) ≡ 0 → ranges_of d start joined ≡ []
 asked_none d start joined e =
     ap (λ n. cond (eqb n 0) [] (map (range_at (product (shape_of (joined_dims joined d.dims)) * d.itemsize)) (places (outer_dims joined d.dims) start))) e
@@ -184,7 +184,7 @@ no_byte size (x ∷ xs) e = absurd (let wrong : suc (length xs) ≡ 0 = e in ome
 pub bytes_none : (d : Descriptor) (start : ℤ) → product (shape_of d.dims) ≡ 0 → [] ≡ item_bytes d start
 bytes_none d start e = no_byte d.itemsize (places d.dims start) (length-places d.dims start ∙ e)
 
--- which walk is asked for
+-- two walks have the same ranges if they join as many dimensions, or if there are no items
 pub asked : (n : ℕ) (d : Descriptor) (start : ℤ) (joined asked_for : ℕ) → product (shape_of d.dims) ≡ n → (0 < n → joined ≡ asked_for) → ranges_of d start joined ≡ ranges_of d start asked_for
 asked zero d start joined asked_for none same = asked_none d start joined none ∙ sym (asked_none d start asked_for none)
 asked (suc n) d start joined asked_for some same = ap (ranges_of d start) (same (omega arith))

@@ -139,7 +139,7 @@ pub next_size : (itemsize n rest size : ℕ) → size ≡ itemsize * (n * rest) 
 next_size itemsize n rest size e some =
     ap (λ (k : ℕ). k / n) (e ∙ (let same : itemsize * (n * rest) ≡ n * (itemsize * rest) = omega arith in same) ∙ mul_comm n (itemsize * rest)) ∙ mul-div_cancel (itemsize * rest) some
 
--- what a step over a shape knows and gives
+-- what a step over a shape needs, and what it gives
 pub record IsDimStep (itemsize size n i : ℕ) (dims more : List (ℕ × ℤ × ℤ)) (shape : List ℕ) : Type 0 where
   pub size_is : size / n ≡ itemsize * product (drop (i + 1) shape)
   pub size_fits : size / n < 2 ^ 63

@@ -11,7 +11,7 @@ use Rattle.pybuf_desc.proofs.Steps.{blocks_apart, places-cons, length-places, ze
 use Rattle.pybuf_desc.proofs.Track.{next_multiple'}
 use Rattle.pybuf_desc.proofs.Cuts.{times_sum, Walks}
 
--- ---- the blocks at the picks, blocks_apart down one after the other
+-- ---- the blocks at the picks, put down one after the other
 
 plus_assoc : (a b c : ℤ) → a +ℤ b +ℤ c ≡ a +ℤ (b +ℤ c)
 plus_assoc a b c = omega (arith, ints)
@@ -28,7 +28,7 @@ blocks_at_picks block n step before p t (x ∷ picks) w =
     (ap (λ q. blocks_apart block (length picks) q (t *ℤ step)) (next_pick p t step before (pos x) w.1)
     ∙ blocks_at_picks block n step (pos x) p t picks w.2)
 
--- with one block at most, the stride leads nowhere
+-- if there is at most one block, the stride doesn't matter
 blocks_one : (block : ℤ → List ℤ) (n : ℕ) (p t u : ℤ) → n ≤ 1 → blocks_apart block n p t ≡ blocks_apart block n p u
 blocks_one block zero p t u h = refl
 blocks_one block (suc zero) p t u h = refl
@@ -113,7 +113,7 @@ pub places_cut : (dims : List (ℕ × ℤ × ℤ)) (dim : ℕ × ℤ × ℤ) (st
 places_cut dims dim start step picks next stride u cut =
     places-cons (length picks, stride, u) dims (pos next) ∙ blocks_cut (places dims) dim start step picks next stride cut
 
--- blocks of the right size: where there is a pick, the first entry isn't 0
+-- if there is a pick, the first entry isn't 0, so the blocks have the right size
 pub block_size : (n size len : ℕ) → len ≡ n * size → 0 < n → len / n ≡ size
 block_size n size len e h = ap (λ k. k / n) (e ∙ mul_comm n size) ∙ mul-div_cancel size h
 

@@ -42,7 +42,7 @@ length-blocks size n starts (i ∷ picks) whole all =
     length-append (block_at size starts i) (flat_map (λ j. block_at size starts j) picks)
     ∙ (let sum : length (block_at size starts i) + length (flat_map (λ j. block_at size starts j) picks) ≡ suc (length picks) * size = omega (arith, one, rest) in sum)
 
--- the blocks have the size that the later dimensions say, where there is one
+-- the blocks have the size that the later dimensions say, if there is a block
 sized_blocks : (size n : ℕ) (starts picks : List ℕ) → length starts ≡ n * size → All (λ i. i < n) picks
     → flat_map (λ i. block_at (length starts / n) starts i) picks ≡ flat_map (λ i. block_at size starts i) picks
 sized_blocks size n starts [] whole all = refl
@@ -66,9 +66,9 @@ slices_shape view n shape parts first whole all =
     ∙ length-blocks (product shape) n view.starts (picks_of n parts) (whole ∙ ap product first) all
     ∙ sym (ap product (shape_of_slice view n shape parts first))
 
--- ---- all of it, backwards
+-- ---- all of a view, backward
 
--- the indices below n, the greatest first
+-- the indices below n, with the greatest first
 abbrev pub downwards : ℕ → List ℕ
 downwards zero = []
 downwards (suc n) = n ∷ downwards n
@@ -96,7 +96,7 @@ length-downwards (suc n) = ap suc (length-downwards n)
 take_whole : (size : ℕ) (block : List ℕ) → length block ≡ size → take size block ≡ block
 take_whole size block e = take_all size block (omega (arith, e))
 
--- the blocks from the last to the first
+-- the blocks, from the last one to the first
 abbrev pub blocks_downwards : ℕ → ℕ → List ℕ → List ℕ
 blocks_downwards size n starts = flat_map (λ i. block_at size starts i) (downwards n)
 

@@ -78,7 +78,7 @@ below_room z room h g = omega (arith, ints)
 there_and_back : (a b : ℤ) → a ≡ a -ℤ b +ℤ b
 there_and_back a b = omega (arith, ints)
 
--- what the place of the first entry needs
+-- what the place of the first entry has to satisfy
 pub record Entry (d : Descriptor) (start first : ℕ) : Type 0 where
   pub index_fits : first < 2 ^ 63
   pub start_fits : start < 2 ^ 63
@@ -165,7 +165,7 @@ pub made_exact : (d : Descriptor) (start : ℕ) (parts : SliceParts) (low high c
 made_exact d start parts low high count next c e h =
     (cut_made d start parts low high count next c e).stride_is (subst (λ n. 1 < n) c.count_is h)
 
--- with two entries or more, the stride is exact
+-- if there are at least two entries, the stride is exact
 pub first_of_made : (d x : Descriptor) (start : ℕ) (parts : SliceParts) (low high count next len : ℕ) → IsCall d start parts low high count
     → (0 < count → pos next ≡ pos start +ℤ span_first low high parts.step *ℤ (dim_at d.dims 0).1)
     → made_of d len count (nearest_word ((dim_at d.dims 0).1 *ℤ parts.step)) ≡ x

@@ -1,4 +1,4 @@
--- A slice of a valid descriptor is valid, and its strides are exact where two items show them.
+-- A slice of a valid descriptor is valid, and its strides are exact if two items show them.
 use Rattle.std.proofs.Common.{◌≡◌, ◌≢◌, ℕ, zero, suc, ◌*◌, ◌^◌, ◌<◌, ◌≤◌, ℤ, pos, negsuc, ◌+ℤ◌, ◌*ℤ◌, ◌≤ℤ◌, List, [], ◌∷◌, length, drop, refl, ap, sym, ◌∙◌, subst, arith, SFits, w64, All, flat_map, mul-le-mul_right, mul-le-mul_left, le_refl, le-mul_of_pos_right, lt_of_le_of_lt, zero-lt-suc, mul-pos, neg_ℤ}
 use Rattle.std.proofs.Math.IntN.{*ℤ_comm}
 use Rattle.std.proofs.lemmas.Int.{ints}
@@ -52,7 +52,7 @@ valid_cut d dims dim start room len step picks next same moves strides_move cut 
           (inside_picks d.itemsize room dim.0 dims dim (pos start) step cut.before picks cut.walks inside));
     }
 
--- a product is 0 only where a factor is
+-- a product is 0 only if a factor is
 pos_none : (n : ℕ) → pos n ≡ pos 0 → n ≡ 0
 pos_none n e = cc
 

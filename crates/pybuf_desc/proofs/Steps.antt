@@ -1,4 +1,4 @@
--- Places by adding the stride once for each index, which inductions can use.
+-- Places that are found by adding the stride once for each index. Inductions can use this form.
 use Rattle.std.proofs.Common.{◌≡◌, ℕ, zero, suc, ◌+◌, ◌*◌, ℤ, pos, negsuc, ◌+ℤ◌, ◌*ℤ◌, List, [], ◌∷◌, ◌++◌, refl, ap, sym, ◌∙◌, arith, length, length-append, zero-mul}
 use Rattle.std.proofs.lemmas.Int.{ints}
 use Rattle.std.specs.List.{flat_map, range_with_len}
@@ -6,7 +6,7 @@ use Rattle.pybuf_desc.specs.Layouts.{product}
 use Rattle.pybuf_desc.specs.Descriptor.{shape_of}
 use Rattle.pybuf_desc.specs.Places.{places}
 
--- `n` blocks, the first at `p` and each `t` after the one before
+-- `n` blocks, of which the first lies at `p` and each lies `t` after the one before it
 abbrev pub blocks_apart : (ℤ → List ℤ) → ℕ → ℤ → ℤ → List ℤ
 blocks_apart block zero p t = []
 blocks_apart block (suc n) p t = block p ++ blocks_apart block n (p +ℤ t) t
@@ -35,7 +35,7 @@ length-blocks_apart block size each zero p t = sym (zero-mul size)
 length-blocks_apart block size each (suc n) p t =
     length-append (block p) (blocks_apart block n (p +ℤ t) t) ∙ (let one = each p in let rest = length-blocks_apart block size each n (p +ℤ t) t in omega (arith, one, rest))
 
--- a place for each item
+-- there is a place for each item
 pub length-places : (dims : List (ℕ × ℤ × ℤ)) (p : ℤ) → length (places dims p) ≡ product (shape_of dims)
 length-places [] p = refl
 length-places (dim ∷ dims) p = ap length (places-cons dim dims p) ∙ length-blocks_apart (places dims) (product (shape_of dims)) (length-places dims) dim.0 p dim.1

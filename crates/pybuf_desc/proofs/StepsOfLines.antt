@@ -1,4 +1,4 @@
--- The places of a line by steps upwards and downwards.
+-- The places of a line, by steps that lead up or down.
 use Rattle.std.proofs.Common.{◌≡◌, ℕ, zero, suc, ◌+◌, ◌-◌, ◌*◌, ◌<◌, ◌≤◌, ℤ, pos, negsuc, ◌+ℤ◌, ◌≤ℤ◌, nat_abs, Bool, true, false, [], ◌∷◌, map, refl, ap, ap₂, sym, ◌∙◌, subst, arith}
 use Rattle.std.specs.Int.Signed.{lt_z}
 use Rattle.std.proofs.lemmas.Int.{ints}
@@ -15,7 +15,7 @@ rising start step size j (suc count) =
     ap (λ xs. range_on false start step size j ∷ xs)
     (rising start step size (j + 1) count ∙ ap (λ (p : ℕ). map (range_at size) (line (pos p) (pos step) count)) next)
 
--- a place above 0 after a step downwards
+-- if a place is still at least 0 after a step down, the step was no longer than the place
 lower : (a n : ℕ) → pos 0 ≤ℤ (pos a +ℤ negsuc n) → suc n ≤ a
 lower a n low = omega (arith, ints, low)
 
@@ -56,7 +56,7 @@ falling_low start n size j a (suc (suc count)) at all (suc k) less =
     let rest = falling_low start n size (j + 1) (a - suc n) (suc count) (next_lower start n j a at low) (subst (λ (p : ℤ). AllInside size (line p (negsuc n) (suc count))) next all.1) k fewer in
     omega (arith, same, rest)
 
--- a line by steps upwards or downwards
+-- a line that goes by steps up or down
 pub record IsByTrack (start : ℕ) (stride : ℤ) (count size step : ℕ) (falls : Bool) : Type 0 where
   pub ranges : map (range_on falls start step size) (range_with_len 0 count) ≡ map (range_at size) (line (pos start) stride count)
   pub low : (k : ℕ) → k < count → falls ≡ true → k * step ≤ start

@@ -65,7 +65,7 @@ pub All-from_AreNonzero : (dims : List (ℕ × ℤ × ℤ)) → AreNonzero dims 
 All-from_AreNonzero [] h = All-nil (λ d. 0 < d.0)
 All-from_AreNonzero (dim ∷ dims) h = All-cons (λ d. 0 < d.0) dim dims h.0 (All-from_AreNonzero dims h.1)
 
--- with items, places without a gap are row-major strides
+-- if there are items, their places lie without a gap exactly if the strides are row-major
 pub contiguous_by_strides : (size : ℕ) (dims : List (ℕ × ℤ × ℤ)) (start : ℤ) → AreNonzero dims → AreRowMajorStrides size dims ↔ IsContiguous size start (places dims start)
 contiguous_by_strides size dims start some = (
   λ fit. contiguous_from_run size dims start (places_from_strides size dims fit start),
@@ -94,7 +94,7 @@ one_of zero more few = absurd (omega (arith, more))
 one_of (suc zero) more few = refl
 one_of (suc (suc n)) more few = absurd (few (omega arith))
 
--- a dimension of one entry leads nowhere
+-- the stride of a dimension with one entry doesn't matter
 pub entry_alone : (size k : ℕ) (dims : List (ℕ × ℤ × ℤ)) → 0 < k → k ≤ length dims → All (λ dim. 0 < dim.0) dims → (1 < (dim_at dims (k - 1)).0 → ⊥)
     → (size * product (shape_of (drop k dims)) ≡ size * product (shape_of (drop (k - 1) dims))) × (AreRowMajorStrides size (drop k dims) → AreRowMajorStrides size (drop (k - 1) dims))
 entry_alone size k dims h g some few =

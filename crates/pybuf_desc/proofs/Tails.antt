@@ -1,4 +1,4 @@
--- The tail of a shape and its strides: it is packed, and nothing longer is.
+-- The tail of a shape and its strides is packed, and no longer tail is.
 use Rattle.std.proofs.Common.{◌≡◌, ℕ, zero, suc, ◌+◌, ◌-◌, ◌*◌, ◌<◌, ◌≤◌, ℤ, pos, Bool, true, false, cond, ◌&&◌, ◌||◌, eqb, leb, List, [], ◌∷◌, length, drop, refl, ap, sym, ◌∙◌, subst, true≢false, arith}
 use Rattle.std.specs.Ordering.{int_eq}
 use Rattle.std.proofs.lemmas.Bool.{eqb-true}
@@ -32,7 +32,7 @@ so_packed (suc (suc n)) stride gap h = ap (λ (b : Bool). b || int_eq stride gap
 same_test : (a b : ℕ) → a ≡ b → eqb a b ≡ true
 same_test a b e = grind (arith, e)
 
--- ---- one dimension more
+-- ---- one more dimension
 
 abbrev pub ArePacked : ℕ → List ℕ → List ℤ → ℕ → Type 0
 ArePacked size shape strides k = AreRowMajor size (drop k shape) (drop k strides)
@@ -89,7 +89,7 @@ tails_are_greatest size (n ∷ shape) (stride ∷ strides) e =
     step size n shape stride strides (tail_of_strides size shape strides) (eqb (tail_of_strides size shape strides) (length shape)) (leb n 1 || int_eq stride (pos (size * product shape)))
     (tails_are_greatest size shape strides (let less : suc (length shape) ≡ suc (length strides) = e in omega (arith, less))) refl refl
 
--- ---- of dimensions
+-- ---- the tail of dimensions
 
 pub long_shape : (dims : List (ℕ × ℤ × ℤ)) → length (shape_of dims) ≡ length dims
 long_shape dims = length-map dims (λ (dim : ℕ × ℤ × ℤ). dim.0)
@@ -116,7 +116,7 @@ fewer_packed size dims k more h packed =
     let e : k + (more - k) ≡ more = omega (arith, h) in
     subst (λ (n : ℕ). AreRowMajorStrides size (drop n dims)) e (subst (AreRowMajorStrides size) (drop-drop (more - k) k dims) (strides-drop size (more - k) (drop k dims) packed))
 
--- so many of the last dimensions, where they are of the tail
+-- the last dimensions are packed, as many as belong to the tail
 pub joined_packed : (size : ℕ) (dims : List (ℕ × ℤ × ℤ)) (joined : ℕ) → joined ≤ tail_of_strides size (shape_of dims) (strides_of dims) → AreRowMajorStrides size (joined_dims joined dims)
 joined_packed size dims joined h =
     let tail = tail_is size dims in
@@ -126,7 +126,7 @@ joined_packed size dims joined h =
 pub tail_few : (size : ℕ) (dims : List (ℕ × ℤ × ℤ)) → tail_of_strides size (shape_of dims) (strides_of dims) ≤ length dims
 tail_few size dims = let few = (tail_is size dims).few in omega (arith, few, long_shape dims)
 
--- where the code finds it
+-- no longer tail is packed, where the code stops
 not_more : (size k t : ℕ) (dims : List (ℕ × ℤ × ℤ)) → k ≤ length dims → (0 < k → AreRowMajorStrides size (drop (k - 1) dims) → ⊥)
     → IsTail size (shape_of dims) (strides_of dims) t → (b : Bool) → leb t (length dims - k) ≡ b → length dims - k ≤ t → length dims - k ≡ t
 not_more size k t dims h unfit tail true e least = let most : t ≤ length dims - k = grind (arith, e) in omega (arith, least, most)

@@ -1,4 +1,4 @@
--- A sum of index times stride never leaves the room on its way.
+-- A sum of index times stride stays in the room on its way.
 use Rattle.std.proofs.Common.{◌≡◌, ℕ, zero, suc, ◌*◌, ◌^◌, ◌<◌, ◌≤◌, ℤ, pos, negsuc, ◌+ℤ◌, ◌*ℤ◌, ◌≤ℤ◌, List, [], ◌∷◌, refl, sym, subst, arith, SFits, w64, le-mul_of_pos_right, mul-pos, zero-lt-suc}
 use Rattle.std.proofs.lemmas.Int.{ints}
 use Rattle.std.specs.List.{AllByRecursion}
@@ -20,7 +20,7 @@ pub record Track (dims : List (ℕ × ℤ × ℤ)) (offset : ℤ) : Type 0 where
   pub entries : AllByRecursion (λ (dim : ℕ × ℤ × ℤ). dim.0 < 2 ^ 63) dims
   pub inside : AllByRecursion (IsInside size room) (places dims (pos start +ℤ offset))
 
--- where each dimension has an entry, the start itself lies in the room
+-- if each dimension has an entry, the start itself lies in the room
 pub here : (size room : ℕ) (dims : List (ℕ × ℤ × ℤ)) (p : ℤ) → AreNonzero dims → AllByRecursion (IsInside size room) (places dims p) → (pos 0 ≤ℤ p) × (p ≤ℤ pos room)
 here size room dims p some h =
     let r : Reaches size room (back_reach dims) (forth_reach dims) p = reach_from_inside size room dims p some h in
@@ -42,7 +42,7 @@ pub inside_entry : (size room : ℕ) (dim : ℕ × ℤ × ℤ) (dims : List (ℕ
 inside_entry size room dim dims p i h all =
     inside_block (IsInside size room) (places dims) dim.0 i p dim.1 h (subst (AllByRecursion (IsInside size room)) (places-cons dim dims p) all)
 
--- what one step of the sum needs, and gives
+-- what one step of the sum needs, and what it gives
 pub record Step (dim : ℕ × ℤ × ℤ) (dims : List (ℕ × ℤ × ℤ)) (offset : ℤ) (i : ℕ) : Type 0 where
   pub index_fits : i < 2 ^ 63
   pub product_fits : SFits w64 (pos i *ℤ dim.1)

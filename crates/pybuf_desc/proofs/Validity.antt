@@ -1,4 +1,4 @@
--- What the checks of a descriptor come to.
+-- What the checks of a descriptor prove.
 use Rattle.std.proofs.Common.{◌≡◌, ◌≢◌, ℕ, ◌*◌, ◌^◌, ◌<◌, ◌≤◌, ℤ, pos, Bool, List, length, drop, All, Any, ap, sym, ◌∙◌, arith, mul-zero}
 use Rattle.pybuf_desc.specs.Layouts.{product}
 use Rattle.pybuf_desc.specs.Descriptor.{Descriptor, shape_of}
@@ -7,7 +7,7 @@ use Rattle.pybuf_desc.specs.Valid.{IsInside, IsValid}
 use Rattle.pybuf_desc.proofs.Steps.{length-places}
 use Rattle.pybuf_desc.proofs.Products.{extent_of, product-zero, product-extent, AreNonzero-from_All}
 
--- what the checks before that of the entries say
+-- what the checks say that come before the check of the entries
 pub record IsPlain (d : Descriptor) : Type 0 where
   pub some_size : 0 < d.itemsize
   pub size_fits : d.itemsize < 2 ^ 63

@@ -6,7 +6,7 @@ use Rattle.pybuf_desc.specs.Valid.{IsInside}
 use Rattle.pybuf_desc.specs.Segments.{line, range_at, IsWalk, AreRows, rows_left, row_places, places_left}
 use Rattle.pybuf_desc.proofs.Rows.{first_left, first_row}
 
--- the next place of a row, where there is one
+-- the next place of a row, if there is one
 abbrev pub IsNext : ℕ → ℤ → ℕ → ℕ → Type 0
 IsNext place stride left next = 0 < left → pos next ≡ pos place +ℤ stride
 
@@ -14,7 +14,7 @@ line-next : (place next left : ℕ) (stride : ℤ) → IsNext place stride left 
 line-next place next zero stride e = refl
 line-next place next (suc left) stride e = ap (λ q. line q stride (suc left)) (sym (e (omega arith)))
 
--- one item of a row is taken
+-- what is left after one item of a row is taken
 left_after : (place next : ℕ) (stride : ℤ) (left row_len : ℕ) (rows : List ℤ) → IsNext place stride left next
     → places_left place stride (suc left) row_len rows ≡ pos place ∷ places_left next stride left row_len rows
 left_after place next stride left row_len rows e =
@@ -24,7 +24,7 @@ left_after place next stride left row_len rows e =
 abbrev pub AllInside : ℕ → List ℤ → Type 0
 AllInside size places = AllByRecursion (IsInside size 9223372036854775807) places
 
--- what a step's arithmetic needs
+-- what the arithmetic of a step needs
 range_fits : (place : ℕ) (stride : ℤ) (left row_len size : ℕ) (rows : List ℤ) → AllInside size (places_left place stride (suc left) row_len rows) → place + size < 2 ^ 63
 range_fits place stride left row_len size rows all = let i = all.0 in let h = i.high in omega (arith, ints)
 
@@ -33,7 +33,7 @@ next_fits : (place : ℕ) (stride : ℤ) (left row_len size : ℕ) (rows : List 
 next_fits place stride zero row_len size rows all h = absurd (omega arith)
 next_fits place stride (suc left) row_len size rows all h = let i = all.1.0 in let low = i.low in let high = i.high in (low, omega (arith, ints))
 
--- ---- one step, with what is left as the code counts it
+-- ---- one step, where the code counts what is left
 
 pub record Taken (place : ℕ) (stride : ℤ) (left row_len size : ℕ) (rows : List ℤ) : Type 0 where
   pub place_fits : place < 2 ^ 63
@@ -67,13 +67,13 @@ taken : (place : ℕ) (stride : ℤ) (left row_len size : ℕ) (rows : List ℤ)
 taken place stride left row_len size rows h all =
     taken_suc place stride left (left - 1) row_len size rows (let e : left ≡ suc (left - 1) = omega (arith, h) in e) refl all
 
--- the next item of a row that was begun
+-- the next item of a row that was begun lies in this row
 pub within_row : (rows : List (ℕ × ℤ × ℤ)) (indices : List ℕ) (row_place : ℕ) (has_row : Bool) (place : ℕ) (stride : ℤ) (left row_len size : ℕ) → 0 < left
     → IsWalk rows indices row_place has_row place stride left row_len size → Taken place stride left row_len size (rows_left rows indices row_place has_row)
 within_row rows indices row_place has_row place stride left row_len size h w =
     taken place stride left row_len size (rows_left rows indices row_place has_row) h w.inside
 
--- a row is begun, and others are left
+-- what is left once a row is begun and others are left
 begun_left : (rows : List (ℕ × ℤ × ℤ)) (indices : List ℕ) (row_place : ℕ) (has_row : Bool) (place : ℕ) (stride : ℤ) (left row_len : ℕ) (others : List ℤ) → left ≡ 0 → has_row ≡ true
     → rows_left rows indices row_place true ≡ pos row_place ∷ others
     → places_left place stride left row_len (rows_left rows indices row_place has_row) ≡ places_left row_place stride row_len row_len others

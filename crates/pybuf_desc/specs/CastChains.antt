@@ -26,24 +26,25 @@ size_of_cast (Flat format size) = size
 size_of_cast (Shaped format size shape) = size
 size_of_cast (InColumns format size shape) = size
 
--- the items of the cast make up so many bytes
+-- the items of the cast make up this number of bytes
 abbrev pub MakesUp : Cast → ℕ → Type 0
 MakesUp (Flat format size) bytes = bytes % size ≡ 0
 MakesUp (Shaped format size shape) bytes = bytes ≡ product shape * size
 MakesUp (InColumns format size shape) bytes = bytes ≡ product shape * size
 
--- The items of the view lie one after the other, and those of the cast, which have a byte, make up its bytes.
+-- The items of the view lie one after the other. The items of the cast have at least one byte, and make up the bytes of
+-- the view.
 pub record CanBeCast (view : Layout) (cast : Cast) : Type 0 where
   pub contiguous : is_contiguous_layout view ≡ true
   pub some : 0 < size_of_cast cast
   pub whole : MakesUp cast (length view.starts * view.itemsize)
 
--- each of the casts can be done of what those before it made
+-- each of the casts can be done on what the casts before it made
 abbrev pub CanAllBeCast : Layout → List Cast → Type 0
 CanAllBeCast view [] = ⊤
 CanAllBeCast view (cast ∷ casts) = CanBeCast view cast × CanAllBeCast (after_cast cast view) casts
 
--- What the casts make is what the last of them makes of the view alone, and that can be done.
+-- Several casts, one after another, make what the last of them makes of the view alone, and that one can be done.
 pub record IsTheLast (view : Layout) (casts : List Cast) (last : Cast) : Type 0 where
   pub can : CanBeCast view last
   pub same : after_casts (casts ++ last ∷ []) view ≡ after_cast last view

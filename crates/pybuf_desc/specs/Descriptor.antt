@@ -1,4 +1,4 @@
--- What the code keeps of a view: a descriptor. Where its items start is no part of it.
+-- What the code keeps of a view, which is a descriptor. A descriptor doesn't say where the items start.
 use Rattle.std.specs.Prelude.{ℕ, ◌*◌, ℤ, pos, Bool, List, [], ◌∷◌, map}
 
 -- A dimension is a triple: its number of entries, the distance in bytes from one entry to the next
@@ -21,7 +21,7 @@ flat_descriptor format itemsize count readonly =
       dims = (count, pos itemsize, pos 0) ∷ [];
     }
 
--- the entries of the shape
+-- the number of entries of each dimension
 abbrev pub shape_of : List (ℕ × ℤ × ℤ) → List ℕ
 shape_of dims = map (λ dim. dim.0) dims
 

@@ -28,7 +28,7 @@ code_of letter.PascalBytes = 112
 code_of letter.Pointer = 80
 code_of letter.WideCharacter = 117
 
--- the text of a letter, or a text where there is none
+-- the text of a letter, or another text if there is no letter
 abbrev pub text_kept : Option FormatLetter → List ℕ → List ℕ
 text_kept None text = text
 text_kept (Some format) text = code_of format ∷ []

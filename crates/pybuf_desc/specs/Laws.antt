@@ -1,4 +1,4 @@
--- What holds of views, and of the descriptors that stand for them.
+-- The laws of views, and of the descriptors that stand for them.
 use Rattle.std.specs.Prelude.{◌≡◌, ◌≢◌, ◌↔◌, ℕ, ◌+◌, ◌-◌, ◌*◌, ◌%◌, ◌^◌, ◌<◌, ℤ, pos, negsuc, ◌+ℤ◌, ◌≤ℤ◌, ◌<ℤ◌, ◌≤◌, nat_abs, Bool, List, [], ◌∷◌, length, drop, slice_get, slice_index, true, None, Some}
 use Rattle.std.specs.List.{All, flat_map}
 use Rattle.std.specs.declared.ops.Range.{Range}
@@ -28,16 +28,16 @@ use Rattle.pybuf_strided.specs.Apart.{place_of, AreInside, pieces_at}
 
 -- ---- casts
 
--- A cast makes its items of the bytes of a view: as many as there are bytes for, item k of them lies
--- k of its item sizes after the first item of the view, and their bytes, in order, are those of the
--- view. It is read-only exactly where the view is.
+-- A cast makes its items of the bytes of a view. It has as many items as there are bytes for. Its item k lies k of its
+-- item sizes after the first item of the view. The bytes of its items, in order, are those of the view. It is read-only
+-- exactly if the view is.
 pub record SharesBytes (bytes : List ℕ) (view cast : Layout) : Type 0 where
   pub count : length cast.starts * cast.itemsize ≡ length view.starts * view.itemsize
   pub starts : (k : ℕ) → k < length cast.starts → slice_get cast.starts k ≡ Some (slice_index view.starts 0 + k * cast.itemsize)
   pub content : content_of_layout bytes cast ≡ content_of_layout bytes view
   pub readonly : cast.readonly ≡ view.readonly
 
--- wherever the items of the view lie in the bytes
+-- a cast to one dimension shares its bytes, wherever the items of the view lie in the bytes
 abbrev pub CastsShareTheirBytes : Type 0
 CastsShareTheirBytes =
     (bytes : List ℕ) (view : Layout) (format : List ℕ) (size : ℕ) → is_contiguous_layout view ≡ true → 0 < size → length view.starts * view.itemsize % size ≡ 0
@@ -53,11 +53,11 @@ CastsHaveTheirShape = (view : Layout) (format : List ℕ) (size : ℕ) → HasIt
 abbrev pub CastsAreContiguous : Type 0
 CastsAreContiguous = (view : Layout) (format : List ℕ) (size : ℕ) → is_contiguous_layout (cast_of view format size) ≡ true
 
--- a cast of one dimension is that of a shape of one entry
+-- a cast to one dimension is the cast to a shape with one entry
 abbrev pub FlatCastsHaveOneDimension : Type 0
 FlatCastsHaveOneDimension = (view : Layout) (format : List ℕ) (size : ℕ) → cast_of view format size ≡ cast_to view format size (cast_count view size ∷ [])
 
--- a cast to a shape whose items make up the bytes of the view
+-- a cast to a shape shares its bytes, if the items of the shape make up the bytes of the view
 abbrev pub ShapedCastsShareTheirBytes : Type 0
 ShapedCastsShareTheirBytes =
     (bytes : List ℕ) (view : Layout) (format : List ℕ) (size : ℕ) (shape : List ℕ) → is_contiguous_layout view ≡ true → 0 < size → length view.starts * view.itemsize ≡ product shape * size
@@ -73,8 +73,8 @@ ShapedCastsHaveTheirShape =
     (view : Layout) (format : List ℕ) (size : ℕ) (shape : List ℕ) → 0 < size → length view.starts * view.itemsize ≡ product shape * size
     → HasItemsOfItsShape (cast_to view format size shape)
 
--- The items of a cast in column order, taken in that order, lie one new item size apart from the first
--- place of the view on.
+-- The items of a cast in column order, taken in that order, lie one new item size apart, from the first place of the
+-- view on.
 abbrev pub ColumnCastsFollowColumnOrder : Type 0
 ColumnCastsFollowColumnOrder =
     (view : Layout) (format : List ℕ) (size : ℕ) (shape : List ℕ) → 0 < length view.starts
@@ -84,7 +84,7 @@ abbrev pub ColumnCastsAreFContiguous : Type 0
 ColumnCastsAreFContiguous =
     (view : Layout) (format : List ℕ) (size : ℕ) (shape : List ℕ) → is_f_contiguous_layout (column_cast_to view format size shape) ≡ true
 
--- the bytes of a cast in column order, in that order, are those of the view
+-- the bytes of a cast in column order, taken in that order, are those of the view
 abbrev pub ColumnCastsGiveTheBytesBack : Type 0
 ColumnCastsGiveTheBytesBack =
     (bytes : List ℕ) (view : Layout) (format : List ℕ) (size : ℕ) (shape : List ℕ) → is_contiguous_layout view ≡ true → 0 < size → length view.starts * view.itemsize ≡ product shape * size
@@ -101,8 +101,8 @@ ColumnCastsHaveTheirShape =
 
 -- ---- copies
 
--- The bytes of a view, copied, hold its items one after the other: in the same shape and format, with
--- the same bytes, inside the copy, and with strides without a gap.
+-- The bytes of a view, once they are copied, hold its items one after the other. The copy has the same shape, format
+-- and bytes. Its items lie inside the copy, and its strides leave no gap.
 pub record IsCopiedLayout (bytes : List ℕ) (view copy : Layout) : Type 0 where
   pub counted : HasItemsOfItsShape copy
   pub inside : LiesInside (length (content_of_layout bytes view)) copy
@@ -114,7 +114,7 @@ abbrev pub CopiesHaveTheirBytes : Type 0
 CopiesHaveTheirBytes =
     (bytes : List ℕ) (view : Layout) → HasItemsOfItsShape view → LiesInside (length bytes) view → IsCopiedLayout bytes view (row_major_of view)
 
--- ---- slices of views of one dimension or more, whose first dimension has `n` entries
+-- ---- slices of views that have a first dimension, with `n` entries
 
 abbrev pub SlicesStayInside : Type 0
 SlicesStayInside = (view : Layout) (parts : SliceParts) (room : ℕ) → LiesInside room view → LiesInside room (slice_of view parts)
@@ -128,25 +128,25 @@ SlicesHaveTheirShape =
 abbrev pub backward : SliceParts
 backward = record { start = None; stop = None; step = negsuc 0 }
 
--- a slice back over all of a view, and back again, has the items of the view where they were
+-- if all of a view is sliced backward, and that is sliced backward again, its items are where they were
 abbrev pub SlicingBackTwiceIsNothing : Type 0
 SlicingBackTwiceIsNothing =
     (view : Layout) (n : ℕ) (shape : List ℕ) → view.shape ≡ n ∷ shape → HasItemsOfItsShape view
     → (slice_of (slice_of view backward) backward).starts ≡ view.starts
 
--- ---- views of which no two items share a byte
+-- ---- views in which no two items share a byte
 
--- those of all bytes, and of the bytes from a place on
+-- the view of all bytes is one of these, and so is the view of the bytes from a place on
 abbrev pub WholeLayoutsLieApart : Type 0
 WholeLayoutsLieApart =
     ((count : ℕ) (readonly : Bool) → HasItemsApart (bytes_layout count readonly))
     × ((start count : ℕ) (readonly : Bool) → HasItemsApart (bytes_layout_from start count readonly))
 
--- of any number of dimensions, where the step is not 0
+-- a slice of such a view is one too, in any number of dimensions, if its step isn't 0
 abbrev pub SlicesLieApart : Type 0
 SlicesLieApart = (view : Layout) (parts : SliceParts) → parts.step ≢ pos 0 → HasItemsApart view → HasItemsApart (slice_of view parts)
 
--- of whatever view: in one dimension, and in a shape
+-- a cast of any view is one, to one dimension and to a shape
 abbrev pub CastsLieApart : Type 0
 CastsLieApart =
     ((view : Layout) (format : List ℕ) (size : ℕ) → HasItemsApart (cast_of view format size))
@@ -160,7 +160,7 @@ RowMajorLayoutsLieApart = (view : Layout) → HasItemsApart (row_major_of view)
 
 -- ---- descriptors
 
--- a descriptor that is placed stands for one view, and for no other
+-- a descriptor that is placed stands for exactly one view
 abbrev pub PlacedDescriptorsStand : Type 0
 PlacedDescriptorsStand = (d : Descriptor) (start : ℕ) → IsPlaced d start → Stands d start (layout_at d start)
 
@@ -170,30 +170,29 @@ DescriptorsStandForOneView = (d : Descriptor) (start : ℕ) (view : Layout) → 
 abbrev pub DescribedViewsHaveTheirShape : Type 0
 DescribedViewsHaveTheirShape = (d : Descriptor) (start : ℕ) (view : Layout) → Stands d start view → HasItemsOfItsShape view
 
--- a descriptor that is valid for some room is so for another exactly where the items lie inside that
+-- a descriptor that is placed is valid for some room exactly if the items lie inside that room
 abbrev pub ValidWhereItemsLieInside : Type 0
 ValidWhereItemsLieInside =
     (d : Descriptor) (start room : ℕ) (view : Layout) → IsPlaced d start → Stands d start view → (LiesInside room view) ↔ (IsValid d start room)
 
--- where there are items, they lie one after the other exactly if the strides are row-major
+-- if there are items, they lie one after the other exactly if the strides are row-major
 abbrev pub ContiguityIsOfStrides : Type 0
 ContiguityIsOfStrides =
     (d : Descriptor) (start : ℕ) (view : Layout) → IsPlaced d start → Stands d start view → 0 < length view.starts
     → (is_contiguous_layout view ≡ true) ↔ (HasRowMajorStrides view)
 
--- where there are items, they lie one after the other in column order exactly if the strides are
--- column-major
+-- if there are items, they lie one after the other in column order exactly if the strides are column-major
 abbrev pub FContiguityIsOfStrides : Type 0
 FContiguityIsOfStrides =
     (d : Descriptor) (start : ℕ) (view : Layout) → IsPlaced d start → Stands d start view → 0 < length view.starts
     → (is_f_contiguous_layout view ≡ true) ↔ (HasColumnMajorStrides view)
 
--- the items of a descriptor lie without a gap wherever they start, or nowhere
+-- if the items of a descriptor lie without a gap from one start on, they do so from any start
 abbrev pub ContiguityIsTheSameAnywhere : Type 0
 ContiguityIsTheSameAnywhere =
     (d : Descriptor) (start other : ℕ) (view other_view : Layout) → Stands d start view → Stands d other other_view → is_contiguous_layout view ≡ is_contiguous_layout other_view
 
--- an item of a view that starts at `start` lies `offset` from there, and all of these fit `isize`
+-- an item of a view that starts at `start` lies `offset` from there, and both places fit `isize`
 pub record IsPosition (view : Layout) (start item : ℕ) (offset : ℤ) : Type 0 where
   pub item_exists : item < length view.starts
   pub start_fits : start < 2 ^ 63
@@ -201,16 +200,16 @@ pub record IsPosition (view : Layout) (start item : ℕ) (offset : ℤ) : Type 0
   pub high : (pos start +ℤ offset) <ℤ pos (2 ^ 63)
   pub place : slice_get view.starts item ≡ Some (nat_abs (pos start +ℤ offset))
 
--- the item at some indices lies the sum of index times stride from the start
+-- the item at some indices lies as far from the start as the sum of each index times its stride
 abbrev pub PositionsArePlaces : Type 0
 PositionsArePlaces =
     (d : Descriptor) (start : ℕ) (view : Layout) (indices : List ℕ) → IsPlaced d start → Stands d start view → AreIndices indices d.dims
     → IsPosition view start (number_of_item indices d.dims) (offset_of indices d.dims)
 
--- ---- the tail, and the ranges of a walk that may join dimensions of it
+-- ---- the tail, and the ranges of a walk, which may join dimensions of the tail
 
--- of the last `t` dimensions each that has more than one entry has as stride the item size times the
--- product of the entries after it, and of no more of them
+-- The last `t` dimensions have no gap: the stride of each of them with more than one entry is the item size times the
+-- product of the entries after it. This holds of no greater number of last dimensions.
 pub record IsTail (itemsize : ℕ) (shape : List ℕ) (strides : List ℤ) (t : ℕ) : Type 0 where
   pub few : t ≤ length shape
   pub packed : AreRowMajor itemsize (drop (length shape - t) shape) (drop (length shape - t) strides)
@@ -220,7 +219,7 @@ abbrev pub TailsAreGreatest : Type 0
 TailsAreGreatest =
     (itemsize : ℕ) (shape : List ℕ) (strides : List ℤ) → length shape ≡ length strides → IsTail itemsize shape strides (tail_of_strides itemsize shape strides)
 
--- the bytes at the ranges, end to end, are those of the items in order
+-- the bytes at the ranges, end to end, are the bytes of the items in order
 abbrev pub RangesHaveTheContent : Type 0
 RangesHaveTheContent =
     (d : Descriptor) (start joined : ℕ) (view : Layout) (bytes : List ℕ) → IsPlaced d start → joined ≤ tail_of d → Stands d start view
@@ -231,7 +230,7 @@ RangesStayInside =
     (d : Descriptor) (start joined : ℕ) (view : Layout) (room : ℕ) → IsPlaced d start → joined ≤ tail_of d → Stands d start view → LiesInside room view
     → All (λ (range : Range ℕ). range.end ≤ room) (ranges_of d (pos start) joined)
 
--- of a walk in column order: the bytes at the ranges, end to end, are those of the items in column order
+-- in a walk in column order, the bytes at the ranges, end to end, are the bytes of the items in column order
 abbrev pub ColumnRangesHaveTheContent : Type 0
 ColumnRangesHaveTheContent =
     (d : Descriptor) (start : ℕ) (view : Layout) (bytes : List ℕ) → Stands d start view
@@ -241,7 +240,7 @@ abbrev pub ColumnRangesStayInside : Type 0
 ColumnRangesStayInside =
     (d : Descriptor) (start room : ℕ) → IsValid d start room → All (λ (range : Range ℕ). range.end ≤ room) (column_ranges_of d (pos start))
 
--- where the items of a view lie inside, so do they in column order
+-- if the items of a view lie inside, they also do so in column order
 abbrev pub ColumnsStayInside : Type 0
 ColumnsStayInside = (room : ℕ) (view : Layout) → HasItemsOfItsShape view → LiesInside room view → LiesInside room (columns_of view)
 
@@ -249,7 +248,7 @@ ColumnsStayInside = (room : ℕ) (view : Layout) → HasItemsOfItsShape view →
 abbrev pub NoItemsAreNoColumns : Type 0
 NoItemsAreNoColumns = (view : Layout) → product view.shape ≡ 0 → column_starts view ≡ []
 
--- The items of a line lie among bytes where each byte of its ranges does.
+-- The items of a line lie among bytes if each byte of its ranges does.
 abbrev pub LinesLieInside : Type 0
 LinesLieInside =
     (line : SegmentLine) (room : ℕ) → IsLine line → All (λ (place : ℕ). place < room) (flat_map bytes_of (ranges_of_line line))

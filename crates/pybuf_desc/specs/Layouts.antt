@@ -2,14 +2,14 @@
 use Rattle.std.specs.Prelude.{◌≡◌, ℕ, ◌+◌, ◌*◌, ◌≤◌, ℤ, pos, Bool, List, [], ◌∷◌, length, map, codes}
 use Rattle.std.specs.List.{All, range_with_len}
 
--- how many items a shape has: the product of its entries, which is 1 where there is no dimension
+-- how many items a shape has: the product of its entries, which is 1 if there is no dimension
 abbrev pub product : List ℕ → ℕ
 product [] = 1
 product (n ∷ shape) = n * product shape
 
--- The format of an item and its size in bytes, the number of entries of each dimension, the place of
--- each item's first byte, row-major, the strides that it shows, and whether it may only be read.
--- A view of no dimension has one item.
+-- A view has the format of an item and its size in bytes, the number of entries of each dimension, the place of each
+-- item's first byte in row-major order, the strides that it shows, and whether it may only be read. A view without
+-- dimensions has one item.
 pub record Layout : Type 0 where
   pub format : List ℕ
   pub itemsize : ℕ
@@ -22,7 +22,7 @@ pub record Layout : Type 0 where
 abbrev pub HasItemsOfItsShape : Layout → Type 0
 HasItemsOfItsShape view = length view.starts ≡ product view.shape
 
--- each byte of each item lies in 0..room
+-- each byte of each item lies from 0 up to the room
 abbrev pub LiesInside : ℕ → Layout → Type 0
 LiesInside room view = All (λ start. start + view.itemsize ≤ room) view.starts
 
@@ -50,6 +50,6 @@ bytes_layout count readonly =
       readonly = readonly;
     }
 
--- one dimension of so many bytes from a place on
+-- one dimension of this many bytes from a place on
 abbrev pub bytes_layout_from : ℕ → ℕ → Bool → Layout
 bytes_layout_from start count readonly = record (bytes_layout count readonly) { starts = range_with_len start count }

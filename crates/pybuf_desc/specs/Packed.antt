@@ -4,7 +4,7 @@ use Rattle.std.specs.List.{range_with_len}
 use Rattle.pybuf_desc.specs.Layouts.{Layout, product}
 use Rattle.pybuf_desc.specs.Strides.{row_major_strides}
 
--- items of this format and size in this shape, one after the other from place 0 on
+-- items of this format and size in this shape, which lie one after the other from place 0 on
 abbrev pub row_major_layout : List ℕ → ℕ → List ℕ → Bool → Layout
 row_major_layout format itemsize shape readonly =
     record {
@@ -16,6 +16,6 @@ row_major_layout format itemsize shape readonly =
       readonly = readonly;
     }
 
--- the items of a view, without a gap
+-- the items of a view, moved together without a gap
 abbrev pub row_major_of : Layout → Layout
 row_major_of view = row_major_layout view.format view.itemsize view.shape view.readonly

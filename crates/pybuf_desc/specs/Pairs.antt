@@ -6,13 +6,13 @@ use Rattle.pybuf_desc.specs.Descriptor.{Descriptor}
 use Rattle.pybuf_desc.specs.Tails.{tail_of}
 use Rattle.pybuf_desc.specs.Segments.{ranges_of}
 
--- how many of the last dimensions are joined on both sides: those of the lesser of the two tails where
--- they are to be joined and the items have one size, else none
+-- How many of the last dimensions are joined on both sides. If they are to be joined and the items have one size, these
+-- are the dimensions of the lesser of the two tails. Else there are none.
 abbrev pub joined_count_of_both : Descriptor → Descriptor → Bool → ℕ
 joined_count_of_both d other join =
     if join && d.itemsize == other.itemsize then min (tail_of d) (tail_of other) else 0
 
--- range k of the one walk with range k of the other
+-- range k of one walk beside range k of the other
 abbrev pub pairs_of : Descriptor → ℤ → Descriptor → ℤ → Bool → List (Range ℕ × Range ℕ)
 pairs_of d start other other_start join =
     zip (ranges_of d start (joined_count_of_both d other join)) (ranges_of other other_start (joined_count_of_both d other join))

@@ -4,8 +4,8 @@ use Rattle.std.specs.List.{flat_map, range_with_len}
 use Rattle.pybuf_desc.specs.Layouts.{Layout}
 use Rattle.pybuf_desc.specs.Descriptor.{Descriptor, shape_of, strides_of}
 
--- The place of each item, row-major: for each index of the first dimension, in order, the places of
--- the other dimensions from `start` plus the index times the stride.
+-- The place of each item, row-major. For each index of the first dimension, in order, they are the places of the other
+-- dimensions from `start` plus the index times the stride.
 abbrev pub places : List (ℕ × ℤ × ℤ) → ℤ → List ℤ
 places [] start = start ∷ []
 places (dim ∷ dims) start =
@@ -20,7 +20,7 @@ pub record Stands (d : Descriptor) (start : ℕ) (view : Layout) : Type 0 where
   pub readonly : d.readonly ≡ view.readonly
   pub starts : places d.dims (pos start) ≡ map pos view.starts
 
--- the view that a descriptor with a start stands for, where no item lies before place 0
+-- the view that a descriptor with a start stands for, if no item lies before place 0
 abbrev pub layout_at : Descriptor → ℕ → Layout
 layout_at d start =
     record {

@@ -6,7 +6,7 @@ use Rattle.pybuf_index.specs.Places.{entry_in}
 use Rattle.pybuf_desc.specs.Layouts.{product}
 use Rattle.pybuf_desc.specs.Descriptor.{shape_of}
 
--- each index is below its dimension's number of entries, and each dimension has one
+-- there is one index for each dimension, and it is below the dimension's number of entries
 abbrev pub AreIndices : List ℕ → List (ℕ × ℤ × ℤ) → Type 0
 AreIndices [] [] = ⊤
 AreIndices (index ∷ indices) (dim ∷ dims) = (index < dim.0) × AreIndices indices dims
@@ -23,7 +23,7 @@ number_of_item (index ∷ indices) (dim ∷ dims) =
     index * product (shape_of dims) + number_of_item indices dims
 number_of_item _ _ = 0
 
--- the sum of entry times stride, where each index names an entry
+-- the sum of each entry times its stride, if each index names an entry
 abbrev pub position_of : List ℤ → List (ℕ × ℤ × ℤ) → Result ℤ Fault
 position_of (index ∷ indices) (dim ∷ dims) = do
   first ← entry_in dim.0 index

@@ -9,8 +9,8 @@ abbrev pub IsContiguous : ℕ → ℤ → List ℤ → Type 0
 IsContiguous itemsize start starts =
     starts ≡ map (λ k. start +ℤ pos (k * itemsize)) (range_with_len 0 (length starts))
 
--- each dimension of more than one entry has as stride the item size times the number of items of the
--- later dimensions
+-- the stride of each dimension with more than one entry is the item size times the number of items of the later
+-- dimensions
 abbrev pub AreRowMajorStrides : ℕ → List (ℕ × ℤ × ℤ) → Type 0
 AreRowMajorStrides itemsize [] = ⊤
 AreRowMajorStrides itemsize (dim ∷ dims) =

@@ -1,4 +1,4 @@
--- The bytes of the items as ranges.
+-- The bytes of the items, as ranges.
 use Rattle.std.specs.Prelude.{◌≡◌, ℕ, zero, suc, ◌+◌, ◌-◌, ◌*◌, Bool, true, false, ◌==◌, ℤ, pos, ◌+ℤ◌, ◌-ℤ◌, nat_abs, List, [], ◌∷◌, ◌++◌, length, take, drop, ◌^◌, ◌<◌, ◌≤◌, map, if◌then◌else◌, ⊤}
 use Rattle.std.specs.List.{flat_map, range_with_len, AllByRecursion}
 use Rattle.std.specs.declared.ops.Range.{Range}
@@ -9,23 +9,23 @@ use Rattle.pybuf_desc.specs.Places.{places}
 use Rattle.pybuf_desc.specs.Positions.{offset_of, number_of_item}
 use Rattle.pybuf_desc.specs.Valid.{IsInside}
 
--- so many bytes from a place on
+-- the range of this many bytes from a place on
 abbrev pub range_at : ℕ → ℤ → Range ℕ
 range_at size place = record { start = nat_abs place; end = nat_abs place + size }
 
--- how many of the last dimensions a walk joins: those of the tail where it is asked to join, else none
+-- how many of the last dimensions a walk joins: those of the tail if it is asked to join, else none
 abbrev pub joined_count : Descriptor → Bool → ℕ
 joined_count d join = if join then tail_of d else 0
 
--- so many of the last dimensions, and the dimensions before them
+-- this many of the last dimensions; the outer dimensions are those before them
 abbrev pub joined_dims : ℕ → List (ℕ × ℤ × ℤ) → List (ℕ × ℤ × ℤ)
 joined_dims joined dims = drop (length dims - joined) dims
 
 abbrev pub outer_dims : ℕ → List (ℕ × ℤ × ℤ) → List (ℕ × ℤ × ℤ)
 outer_dims joined dims = take (length dims - joined) dims
 
--- Where so many of the last dimensions are joined: a range for each place of the dimensions before
--- them, row-major, of as many bytes as the items of the joined ones have. There is none without items.
+-- The ranges of a walk that joins this many of the last dimensions. There is one for each place of the dimensions before
+-- them, row-major. It has as many bytes as the items of the joined dimensions have. Without items there is no range.
 abbrev pub ranges_of : Descriptor → ℤ → ℕ → List (Range ℕ)
 ranges_of d start joined =
     if product (shape_of d.dims) == 0 then []
@@ -45,7 +45,7 @@ item_bytes d start = flat_map (λ place. range_with_len (nat_abs place) d.itemsi
 
 -- ---- what a walk has left
 
--- `n` places from `place` on, a stride apart
+-- `n` places from `place` on, one stride apart
 abbrev pub line : ℤ → ℤ → ℕ → List ℤ
 line place stride zero = []
 line place stride (suc n) = place ∷ line (place +ℤ stride) stride n
@@ -55,7 +55,8 @@ pub record HasPlaces (dims : List (ℕ × ℤ × ℤ)) (start : ℤ) : Type 0 wh
   pub entries : AllByRecursion (λ dim. (0 < dim.0) × (dim.0 < 2 ^ 63)) dims
   pub inside : AllByRecursion (IsInside 0 9223372036854775807) (places dims start)
 
--- an index for each of the dimensions, each below its dimension's number of entries; more may follow
+-- there is an index for each of the dimensions, and it is below the dimension's number of entries; more indices may
+-- follow
 abbrev pub AreWithin : List ℕ → List (ℕ × ℤ × ℤ) → Type 0
 AreWithin indices [] = ⊤
 AreWithin [] (dim ∷ dims) = ⊥
@@ -70,7 +71,7 @@ pub record IsRow (rows : List (ℕ × ℤ × ℤ)) (indices : List ℕ) (place :
   pub within : AreWithin indices rows
   pub placed : HasPlaces rows (start_from rows indices place)
 
--- the places of the rows from the one at these indices on, or of none
+-- the places of the rows from the one at these indices on; none if there is no such row
 abbrev pub rows_left : List (ℕ × ℤ × ℤ) → List ℕ → ℕ → Bool → List ℤ
 rows_left rows indices place false = []
 rows_left rows indices place true =

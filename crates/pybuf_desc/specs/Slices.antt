@@ -4,8 +4,8 @@ use Rattle.std.specs.List.{flat_map}
 use Rattle.pybuf_index.specs.Parts.{SliceParts, picks_of, nearest_word}
 use Rattle.pybuf_desc.specs.Layouts.{Layout}
 
--- The first entry of a shape, and 1 where there is no dimension: an iterator over such a view goes along one
--- entry. Such a view is never sliced, and there the 1 counts nothing.
+-- The first entry of a shape. It is 1 if there is no dimension, and an iterator over such a view goes along one entry.
+-- Such a view is never sliced, so the 1 means nothing there.
 abbrev pub first_entry : List ℕ → ℕ
 first_entry [] = 1
 first_entry (n ∷ shape) = n
@@ -14,13 +14,13 @@ abbrev pub first_stride : List ℤ → ℤ
 first_stride [] = pos 0
 first_stride (stride ∷ strides) = stride
 
--- the i-th of the blocks of so many places
+-- block i, if the places are cut into blocks of this size
 abbrev pub block_at : ℕ → List ℕ → ℕ → List ℕ
 block_at size starts i = take size (drop (i * size) starts)
 
--- The starts are cut into as many equal blocks as the first entry says. The slice has the blocks at
--- the picks, in that order, and their number as its first entry. Its first shown stride is the old
--- one times the step clamped to `isize`, itself clamped. All else stays.
+-- The starts are cut into as many equal blocks as the first entry says. The slice has the blocks at the picks, in that
+-- order, and their number is its first entry. Its first shown stride is the old one times the clamped step, and is
+-- clamped again; to clamp a number is to take the nearest `isize`. All else stays.
 abbrev pub slice_at : Layout → List ℕ → ℤ → Layout
 slice_at view picks step =
     record view {

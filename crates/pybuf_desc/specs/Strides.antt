@@ -1,9 +1,9 @@
--- Strides of layouts whose items lie one after the other.
+-- The strides of layouts whose items lie one after the other.
 use Rattle.std.specs.Prelude.{◌≡◌, ℕ, ◌*◌, ◌<◌, ℤ, pos, List, [], ◌∷◌, ⊤}
 use Rattle.pybuf_desc.specs.Layouts.{Layout, product}
 
--- each dimension of more than one entry has as stride the item size times the number of items of the
--- later dimensions
+-- the stride of each dimension with more than one entry is the item size times the number of items of the later
+-- dimensions
 abbrev pub AreRowMajor : ℕ → List ℕ → List ℤ → Type 0
 AreRowMajor itemsize (n ∷ shape) (stride ∷ strides) =
     (1 < n → stride ≡ pos (itemsize * product shape)) × AreRowMajor itemsize shape strides

@@ -4,8 +4,8 @@ use Rattle.std.specs.Ordering.{int_eq}
 use Rattle.pybuf_desc.specs.Layouts.{Layout, product}
 use Rattle.pybuf_desc.specs.Descriptor.{Descriptor, shape_of, strides_of}
 
--- The tail: the greatest number of last dimensions of which each that has more than one entry has as
--- stride the item size times the product of the entries after it. Without dimensions it is 0.
+-- The tail is the greatest number of last dimensions that have no gap. In these, the stride of each dimension with more
+-- than one entry is the item size times the product of the entries after it. Without dimensions the tail is 0.
 abbrev pub tail_of_strides : ℕ → List ℕ → List ℤ → ℕ
 tail_of_strides itemsize (n ∷ shape) (stride ∷ strides) =
     if tail_of_strides itemsize shape strides == length shape && (leb n 1 || int_eq stride (pos (itemsize * product shape))) then suc (length shape)

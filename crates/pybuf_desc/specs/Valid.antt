@@ -4,12 +4,12 @@ use Rattle.pybuf_desc.specs.Layouts.{product}
 use Rattle.pybuf_desc.specs.Descriptor.{Descriptor, shape_of}
 use Rattle.pybuf_desc.specs.Places.{places}
 
--- each byte of an item at this place lies in 0..room
+-- each byte of an item at this place lies from 0 up to the room
 pub record IsInside (itemsize room : ℕ) (place : ℤ) : Type 0 where
   pub low : pos 0 ≤ℤ place
   pub high : (place +ℤ pos itemsize) ≤ℤ pos room
 
--- the entries that aren't 0
+-- the entries that are not 0
 abbrev pub nonzero_entries : List ℕ → List ℕ
 nonzero_entries [] = []
 nonzero_entries (zero ∷ shape) = nonzero_entries shape
@@ -26,13 +26,13 @@ pub record IsValid (d : Descriptor) (start room : ℕ) : Type 0 where
   pub len : d.itemsize * product (shape_of d.dims) ≡ d.len
   pub inside : All (IsInside d.itemsize room) (places d.dims (pos start))
 
--- valid from this start, in some room that bytes can have
+-- a descriptor is valid from this start, in some room that bytes can have
 pub record IsPlaced (d : Descriptor) (start : ℕ) : Type 0 where
   pub room : ℕ
   pub room_fits : room < 2 ^ 63
   pub valid : IsValid d start room
 
--- valid from some start
+-- a descriptor is valid from some start
 pub record IsPlaceable (d : Descriptor) : Type 0 where
   pub start : ℕ
   pub placed : IsPlaced d start

@@ -34,8 +34,8 @@ impl Model for BufferDescriptor {
 }
 
 /// How many items of a size make up so many bytes.
-// The sizes of most formats are spelled out: by a power of two that is known beforehand a processor divides in a
-// fraction of the time.
+// The sizes of most formats are spelled out. A processor divides much faster by a power of two that is known
+// beforehand.
 #[inline(always)]
 fn items_in(len: usize, itemsize: usize) -> usize
     requires { 0 < itemsize }

@@ -10,7 +10,7 @@ use std::marker::Model;
 
 /// The format of an item, in the syntax of Python's `struct` module. A clause sees the list of its UTF-8 bytes.
 /// Example: `KeptFormat::of(alloc, "<H")?` stands for a little-endian number of two bytes without a sign.
-// A letter stands beside an empty text, and not in its place, so that there is one way to let go of both.
+// A letter stands beside an empty text, and not in place of it. So there is one way to drop both.
 #[derive(Debug, Drop)]
 pub struct KeptFormat {
     letter: Option<FormatLetter>,

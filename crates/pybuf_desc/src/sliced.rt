@@ -33,7 +33,7 @@ fn len_of_entries(len: usize, shape: usize, count: usize) -> usize
     if count == 0 {
         return 0;
     }
-    // of single bytes in one dimension, as most views are, without a division
+    // Most views have one dimension of single bytes. These need no division.
     if shape == len {
         return count;
     }

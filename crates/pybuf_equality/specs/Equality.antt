@@ -1,5 +1,5 @@
--- When two views are equal: as many dimensions, shapes that agree, and equal items, each read by the
--- format of its own side.
+-- When two views are equal. They need the same number of dimensions, shapes that agree, and equal items. Each item is
+-- read by the format of its own side.
 use Rattle.std.specs.Prelude.{ℕ, zero, suc, ◌==◌, ◌&&◌, Bool, true, false, List, [], ◌∷◌, take, drop, length, codes}
 use Rattle.pybuf_value.specs.declared.values.Item.{Item}
 use Rattle.pybuf_value.specs.declared.snaps.Snap.{Snap}
@@ -10,38 +10,38 @@ use Rattle.pybuf_memoryview.specs.Items.{item_by}
 
 -- ---- the items of what a handle names
 
--- so many items of a format and its size that content reads as, in order
+-- the items that content is read as, in order: this many of them, of one format and its size
 abbrev pub items_cut : List ℕ → ℕ → ℕ → List ℕ → List Item
 items_cut format size zero content = []
 items_cut format size (suc n) content = item_by format (take size content) ∷ items_cut format size n (drop size content)
 
--- all items of a view or an exporter as it is lent
+-- all items of a view or an exporter, as it is lent
 abbrev pub items_of_snap : Snap → List Item
 items_of_snap s = items_cut s.format s.itemsize (product s.shape) s.content
 
 -- ---- equality
 
--- what the dimensions after these say: nothing where both of these have no entry
+-- what the dimensions after this one say; it doesn't matter if this one has no entry on either side
 abbrev pub agree_after : ℕ → Bool → Bool
 agree_after zero later = true
 agree_after (suc n) later = later
 
--- The entries of each dimension are the same, from the first dimension on. Where both have none, there
--- are no items, and the rest is ignored.
+-- The entries of each dimension are the same, from the first dimension on. If both sides have no entry in one
+-- dimension, there are no items, and the rest isn't compared.
 abbrev pub shapes_agree : List ℕ → List ℕ → Bool
 shapes_agree [] [] = true
 shapes_agree [] (m ∷ others) = false
 shapes_agree (n ∷ shape) [] = false
 shapes_agree (n ∷ shape) (m ∷ others) = n == m && agree_after n (shapes_agree shape others)
 
--- as many items, and each equal to that of the same number
+-- there are as many items on both sides, and each is equal to the item with the same number
 abbrev pub same_items : List Item → List Item → Bool
 same_items [] [] = true
 same_items [] (y ∷ ys) = false
 same_items (x ∷ xs) [] = false
 same_items (x ∷ xs) (y ∷ ys) = same_item x y && same_items xs ys
 
--- two views or exporters, as they are lent, are equal; this says nothing of released views
+-- whether two views or exporters are equal as they are lent; this says nothing of released views
 abbrev pub same_view : Snap → Snap → Bool
 same_view left right =
     length left.shape == length right.shape && (shapes_agree left.shape right.shape && same_items (items_of_snap left) (items_of_snap right))

@@ -1,4 +1,4 @@
--- Readers by whose items bytes can be told apart, so that items are equal exactly where their bytes are.
+-- Readers whose items tell bytes apart: two items are equal exactly if their bytes are.
 use Rattle.std.specs.Prelude.{ℕ, ◌==◌, ◌&&◌, Bool, false}
 use Rattle.std.specs.List.{list_all}
 use Rattle.pybuf_struct.specs.Formats.{Code, Format}
@@ -6,7 +6,7 @@ use Rattle.pybuf_struct.specs.Laws.{is_exact}
 use Rattle.pybuf_memoryview.specs.declared.readers.ItemReader.{ItemReader}
 use Rattle.pybuf_memoryview.specs.declared.readers.ItemReader.TheVariants as reader
 
--- a code without padding, whose every byte is part of its values
+-- a code has no padding, and every byte of it is part of its values
 abbrev pub is_exact_code : Code → Bool
 is_exact_code c = c.pre_padding == 0 && is_exact c.code
 
@@ -16,7 +16,7 @@ has_exact_codes format = list_all is_exact_code format.codes
 abbrev pub is_exact_format : Format → ℕ → Bool
 is_exact_format format size = format.size == size && has_exact_codes format
 
--- of items of so many bytes
+-- a reader of items of this size whose items tell bytes apart
 abbrev pub is_exact_reader : ItemReader → ℕ → Bool
 is_exact_reader reader.Byte size = size == 1
 is_exact_reader (reader.Fields format) size = is_exact_format format size

@@ -1,9 +1,9 @@
--- Layouts of bytes that are filled by their items.
+-- Layouts whose items fill the bytes.
 use Rattle.std.specs.Prelude.{◌≡◌, ℕ, List, length}
 use Rattle.pybuf_desc.specs.Layouts.{Layout, LiesInside}
 use Rattle.pybuf_desc.specs.Items.{content_of_layout}
 
--- items of this format, size and shape, whose bytes, in order, are these
+-- the items have this format, size and shape, and their bytes, in order, are these
 pub record IsPacked (bytes text : List ℕ) (size : ℕ) (entries : List ℕ) (layout : Layout) : Type 0 where
   pub format : layout.format ≡ text
   pub itemsize : layout.itemsize ≡ size

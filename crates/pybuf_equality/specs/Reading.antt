@@ -7,11 +7,11 @@ use Rattle.pybuf_memoryview.specs.Items.{item_by}
 use Rattle.pybuf_memoryview.specs.Readers.{read_by}
 use Rattle.pybuf_memoryview.specs.declared.readers.ItemReader.{ItemReader}
 
--- bytes of an item's size are read by a reader as they are by the text of a format
+-- if bytes have the size of an item, a reader reads them as the text of a format does
 abbrev pub ReadsAs : ItemReader → List ℕ → ℕ → Type 0
 ReadsAs reader format size = (bytes : List ℕ) → length bytes ≡ size → read_by reader bytes ≡ item_by format bytes
 
--- bytes of an item's size are read by the text of a format as one whole number, with a sign or without, whose first
--- byte is worth least
+-- If bytes have the size of an item, the text of a format reads them as one whole number, with or without a sign. The
+-- first byte is worth least.
 abbrev pub ReadsAsNumber : Bool → List ℕ → ℕ → Type 0
 ReadsAsNumber signed format size = (bytes : List ℕ) → length bytes ≡ size → item_by format bytes ≡ item.One (scalar.Int (number false signed bytes))

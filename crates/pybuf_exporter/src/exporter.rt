@@ -229,7 +229,7 @@ impl ExporterState {
         }
     }
 
-    // The commands that are called very often follow, each with its values lent by themselves: no verb is made for
+    // The commands that are called very often follow. Each lends its values by themselves, so that no verb is made for
     // it.
 
     /// A new view of all bytes, as `Verb::View` of the exporter itself. The reply is its number. This is never
@@ -617,7 +617,7 @@ impl ExporterState {
     }
 }
 
-// A copy is the same exporter, and has no room.
+// A copy is the same exporter, but has no free room.
 impl Twin for ExporterState {
     ghost use Rattle.std.specs.Prelude.{◌≡◌};
     ghost use Rattle.pybuf_exporter.specs.Stored.{without_room};

@@ -85,7 +85,7 @@ fn effect_without_edits<N: Names>(
             let read = handles_read(parts.alloc, Subject::Own, verb)?;
             contains::of_own(parts, value, &Reading::new(parts, names, read.as_slice()))
         }
-        // a method reads what each of its handles names
+        // a method reads the bytes of what each of its handles names
         Verb::Call { method } => call::of_own(parts, method, &Reading::new(parts, names, handles)),
         _ => Err(Halt::Refused(Fault::UnknownName)),
     }

@@ -62,12 +62,12 @@ pub fn push_digits(out: &mut Vec<u8>, bytes: &[u8]) -> Made<()>
     ensures { OnOk result (out.new.items ≡ out.old.items ++ encode_lower bytes.now) }
 {
     let start = out.len();
-    // no vector has so many bytes
+    // no vector can have so many bytes
     if bytes.len() > (isize::MAX as usize - start) / 2 {
         return Err(NoMemory);
     }
     out.resize(start + 2 * bytes.len(), 0)?;
-    // the room is twice as long as the bytes, so this is no refusal
+    // the room is twice as long as the bytes, so this is never refused
     let _ = hex::encode_to_slice(bytes, &mut out.as_mut_slice()[start..]);
     Ok(())
 }

@@ -22,7 +22,7 @@ fn push_text(out: &mut Vec<u8>, text: &[u8]) -> Made<()>
 
 /// What a tuple or a list of a line may have as its parts.
 trait Part {
-    // how a part is written, by how a handle is
+    // The text that a part is written as, if a function tells how handles are written.
     ghost spelling: { (ℕ → List ℕ) → Self → List ℕ };
 
     /// Adds the part.

@@ -10,11 +10,11 @@ use Rattle.pybuf_value.specs.declared.values.CompareOp.TheVariants as op
 use Rattle.pybuf_value.specs.Equality.{same_scalar}
 use Rattle.pybuf_value.specs.Order.{order_of_scalars, answers}
 
--- equal by parts
+-- two slices are equal if their parts are
 abbrev pub same_slice : PySlice → PySlice → Bool
 same_slice left right = same_scalar left.start right.start && same_scalar left.stop right.stop && same_scalar left.step right.step
 
--- the first parts that are unequal decide the order, and where none are, the slices are equal
+-- the order of the first parts that are unequal; if all parts are equal, so are the slices
 abbrev pub order_of_slices : PySlice → PySlice → Result Ordering Fault
 order_of_slices left right =
     if not (same_scalar left.start right.start) then order_of_scalars left.start right.start
@@ -22,7 +22,7 @@ order_of_slices left right =
     else if not (same_scalar left.step right.step) then order_of_scalars left.step right.step
     else Ok Equal
 
--- what an operator answers of two slices
+-- what an operator answers for two slices
 abbrev pub compared_slices : CompareOp → PySlice → PySlice → Result Bool Fault
 compared_slices op.Eq left right = Ok (same_slice left right)
 compared_slices op.Ne left right = Ok (not (same_slice left right))

@@ -12,14 +12,14 @@ use Rattle.pybuf_index.specs.declared.keys.SequenceIndex.TheVariants as index
 use Rattle.pybuf_index.specs.Picks.{start_of, stop_of}
 use Rattle.pybuf_index.specs.Parts.{parts_of, saturated_parts_of}
 
--- start, stop and step of a slice of a sequence of this length, which may not be negative
+-- the start, the stop and the step that a slice has for a sequence of this length, which may not be negative
 abbrev pub indices_of : ℤ → PySlice → Result (ℤ × ℤ × ℤ) Fault
 indices_of (negsuc k) slice = Err fault.Value
 indices_of (pos n) slice = do
   parts ← parts_of slice
   Ok (start_of n parts.start parts.step, stop_of n parts.stop parts.step, parts.step)
 
--- a number that fits `isize`, or a slice
+-- a key of a sequence: a number that fits `isize`, or a slice
 abbrev pub sequence_index_of : Value → Result SequenceIndex Fault
 sequence_index_of (value.One s) = do
   number ← number_in s

@@ -1,8 +1,9 @@
--- The hash of a slice by the hashes of its parts, its lanes, over numbers of 64 bits.
+-- The hash of a slice, over numbers of 64 bits. It is computed from the hashes of the slice's parts, which are its
+-- lanes.
 use Rattle.std.specs.Prelude.{ℕ, ◌+◌, ◌-◌, ◌*◌, ◌^◌, ◌%◌, ◌==◌, ℤ, negsuc, if◌then◌else◌}
 use Rattle.std.specs.Int.{w64, rotate_left, cast_signed}
 
--- what 64 bits keep of a number
+-- the part of a number that 64 bits keep
 abbrev pub wrapped : ℕ → ℕ
 wrapped n = n % 2 ^ 64
 
@@ -10,16 +11,16 @@ wrapped n = n % 2 ^ 64
 abbrev pub minus_one : ℕ
 minus_one = 2 ^ 64 - 1
 
--- a lane more: it is multiplied and added, and the sum is turned left by 31 bits and multiplied
+-- one more lane is mixed in: the lane is multiplied and added, and the sum is rotated left by 31 bits and multiplied
 abbrev pub mixed : ℕ → ℕ → ℕ
 mixed hash lane =
     wrapped (rotate_left w64 (wrapped (hash + wrapped (lane * 14029467366897019727))) 31 * 11400714785074694791)
 
--- no hash is -1
+-- the hash, or another number in place of -1, which no hash may be
 abbrev pub other_than_minus_one : ℕ → ℕ
 other_than_minus_one hash = if hash == minus_one then 1546275796 else hash
 
--- A lane of -1 is a part that has no hash, and makes the whole -1. Else the lanes are mixed in their order.
+-- If a lane is -1, its part has no hash, and the whole hash is -1. Else the lanes are mixed in their order.
 abbrev pub hash_of : ℕ → ℕ → ℕ → ℤ
 hash_of start stop step =
     if start == minus_one then negsuc 0

@@ -1,4 +1,4 @@
--- The parts of a slice, and which values are parts.
+-- The parts of a slice, and which values can be parts.
 use Rattle.std.specs.Prelude.{ℕ, zero, suc, ◌≢◌, ℤ, pos, negsuc, List, Option, None, Some, Result, Ok, Err, FitsSigned}
 use Rattle.std.specs.Option.{ForSome}
 use Rattle.std.specs.Int.{w64, saturate_signed}
@@ -11,26 +11,26 @@ use Rattle.pybuf_value.specs.Numbers.{number_in}
 use Rattle.pybuf_value.specs.Refusing.{◌>>=◌}
 use Rattle.pybuf_index.specs.Picks.{picks}
 
--- start, stop and step: an absent start or stop is none, an absent step is 1
+-- the start, the stop and the step; an absent start or stop is none, and an absent step is 1
 pub record SliceParts : Type 0 where
   pub start : Option ℤ
   pub stop : Option ℤ
   pub step : ℤ
 
--- None is absent, and a number or a truth value is a number
+-- a part: `None` stands for an absent one, and any other part must be a number or a truth value
 abbrev pub part_in : Scalar → Result (Option ℤ) Fault
 part_in scalar.None = Ok None
 part_in s = do
   n ← number_in s
   Ok (Some n)
 
--- a step is not 0
+-- a step, which may not be 0
 abbrev pub nonzero : ℤ → Result ℤ Fault
 nonzero (pos zero) = Err fault.Value
 nonzero (pos (suc n)) = Ok (pos (suc n))
 nonzero (negsuc n) = Ok (negsuc n)
 
--- an absent step is 1
+-- a step, which is 1 if it is absent
 abbrev pub step_in : Scalar → Result ℤ Fault
 step_in scalar.None = Ok (pos 1)
 step_in s = do
@@ -45,7 +45,7 @@ parts_of slice = do
   stop ← part_in slice.stop
   Ok (record { start = start; stop = stop; step = step })
 
--- the nearest number that fits `isize`
+-- the number that fits `isize` and is nearest to this one
 abbrev pub nearest_word : ℤ → ℤ
 nearest_word n = saturate_signed w64 n
 
@@ -53,7 +53,7 @@ abbrev pub clamped_part : Option ℤ → Option ℤ
 clamped_part None = None
 clamped_part (Some n) = Some (nearest_word n)
 
--- each part is the nearest that fits `isize`
+-- the parts, of which each is replaced by the nearest number that fits `isize`
 abbrev pub clamped_parts : SliceParts → SliceParts
 clamped_parts parts = record { start = clamped_part parts.start; stop = clamped_part parts.stop; step = nearest_word parts.step }
 
@@ -63,7 +63,7 @@ saturated_parts_of slice = do
   parts ← parts_of slice
   Ok (clamped_parts parts)
 
--- a part that is there fits `isize`
+-- a part is absent or fits `isize`
 abbrev pub FitsPart : Option ℤ → Type 0
 FitsPart part = ForSome part (λ n. FitsSigned w64 n)
 

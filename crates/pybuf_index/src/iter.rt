@@ -15,8 +15,7 @@ use std::ops::Range;
 /// Example: that of the slice `::2` in five items gives 0, 2, 4.
 #[derive(Clone, Debug, Drop)]
 pub struct SaturatedSliceIter {
-    // The indices are `left` numbers from `low` up, one `stride` apart; where they fall, the
-    // greatest comes first.
+    // The indices are `left` numbers from `low` up, one `stride` apart. If they fall, the greatest comes first.
     low: usize,
     stride: usize,
     left: usize,

@@ -135,7 +135,7 @@ pub(crate) fn count_between(low: usize, high: usize, stride: usize) -> usize
     ensures count { result ≡ how_many low high stride }
 {
     if low < high {
-        // most slices have the step 1, and a division takes as long as all else here
+        // Most slices have the step 1, and a division takes as long as everything else here.
         if stride == 1 {
             return high - low;
         }

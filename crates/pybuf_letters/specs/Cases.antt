@@ -20,11 +20,11 @@ abbrev pub capitalize : List ℕ → List ℕ
 capitalize [] = []
 capitalize (first ∷ rest) = to_ascii_uppercase first ∷ lower rest
 
--- a byte in lower case after a letter, and in upper case after none
+-- a byte as a title has it: in lower case if a letter stands before it, else in upper case
 abbrev pub title_byte : Bool → ℕ → ℕ
 title_byte after_letter b = if after_letter then to_ascii_lowercase b else to_ascii_uppercase b
 
--- each byte so, where the first stands after a letter or not
+-- each byte as a title has it, if the first byte stands after a letter or not
 abbrev pub title_from : Bool → List ℕ → List ℕ
 title_from after_letter [] = []
 title_from after_letter (b ∷ rest) = title_byte after_letter b ∷ title_from (is_ascii_alphabetic b) rest

@@ -8,11 +8,11 @@ use Rattle.std.specs.List.{list_all, list_any}
 abbrev pub is_blank : ℕ → Bool
 is_blank b = b == 32 || nat_le 9 b && nat_le b 13
 
--- there are bytes, and each is of the class
+-- there are bytes, and each is in the class
 abbrev pub all_of : (ℕ → Bool) → List ℕ → Bool
 all_of of_class bytes = not (length bytes == 0) && list_all of_class bytes
 
--- some byte is of the one case, and none is of the other
+-- some byte is in the one case, and none is in the other
 abbrev pub all_in_case : (ℕ → Bool) → (ℕ → Bool) → List ℕ → Bool
 all_in_case is_case is_opposite bytes = list_any is_case bytes && not (list_any is_opposite bytes)
 
@@ -20,11 +20,11 @@ all_in_case is_case is_opposite bytes = list_any is_case bytes && not (list_any 
 abbrev pub fits_title : Bool → ℕ → Bool
 fits_title after_letter b = not (if after_letter then is_ascii_uppercase b else is_ascii_lowercase b)
 
--- each byte may stand where it does, where the first stands after a letter or not
+-- each byte may stand in a title where it does, if the first byte stands after a letter or not
 abbrev pub fits_title_from : Bool → List ℕ → Bool
 fits_title_from after_letter [] = true
 fits_title_from after_letter (b ∷ rest) = fits_title after_letter b && fits_title_from (is_ascii_alphabetic b) rest
 
--- there is a letter, each upper-case letter stands after no letter, and each lower-case one after a letter
+-- there is a letter, no upper-case letter stands after a letter, and each lower-case one does
 abbrev pub is_title : List ℕ → Bool
 is_title bytes = list_any is_ascii_alphabetic bytes && fits_title_from false bytes

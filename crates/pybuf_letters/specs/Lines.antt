@@ -14,7 +14,7 @@ begins_with_feed (b ∷ rest) = b == 10
 abbrev pub ends_line : ℕ → List ℕ → Bool
 ends_line b rest = b == 10 || b == 13 && not (begins_with_feed rest)
 
--- how many bytes the end of a line takes that the bytes begin with
+-- how many bytes the line end takes that the bytes begin with
 abbrev pub end_length : List ℕ → ℕ
 end_length [] = 0
 end_length (b ∷ rest) = if b == 13 && begins_with_feed rest then 2 else 1

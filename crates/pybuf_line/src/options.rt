@@ -29,7 +29,8 @@ pub fn options_of(alloc: Global, words: &[&[u8]]) -> Result<ByteInnerNewOptions,
             })
         }
         [source, encoding] => {
-            // What is dropped is handed over: a value that ends with its scope would spell out all its variants.
+            // What is dropped is handed over to a call. If it ended with its scope, the drop would spell out all its
+            // variants.
             let source = value(alloc, source)?;
             match value(alloc, encoding) {
                 Ok(encoding) => Ok(ByteInnerNewOptions {

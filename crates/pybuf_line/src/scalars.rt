@@ -44,7 +44,7 @@ pub fn word_number(text: &[u8]) -> Option<u64>
         if !c.is_ascii_digit() {
             return None;
         }
-        // a number that is too large stays so, whatever follows
+        // a number that is too large stays too large, whatever digits follow
         let Some(tens) = number.checked_mul(10) else {
             return None;
         };
@@ -68,7 +68,7 @@ fn number(bound: u128, text: &[u8]) -> Option<u128>
         if !c.is_ascii_digit() {
             return None;
         }
-        // a number that is too large stays so, whatever follows
+        // a number that is too large stays too large, whatever digits follow
         let Some(tens) = number.checked_mul(10) else {
             return None;
         };

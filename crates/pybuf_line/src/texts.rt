@@ -39,7 +39,7 @@ fn push_text(out: &mut Vec<u8>, text: &[u8]) -> Made<()>
 ///
 /// Example: a number, bytes, a scalar and an item are such parts.
 pub trait Part {
-    // the text of a part
+    // The text that a part is written as.
     ghost text: { Self → List ℕ };
 
     /// Adds the part, as it stands in a tuple or a list.

@@ -85,7 +85,7 @@ fn of_one(alloc: Global, subject: u64, word: Word, first: &[u8]) -> Result<Comma
         Word::IAdd => Verb::IAdd { value: first },
         Word::IMul => Verb::IMul { count: first },
         _ => {
-            // handed over: a value that ends with its scope would spell out all its variants
+            // The value is dropped by a call. If it ended with its scope, the drop would spell out all its variants.
             drop(first);
             return Err(Unread::NoCommand);
         }
@@ -105,7 +105,7 @@ fn of_two(
     ensures { Reads result (asked subject (verb_by_values handle_in word (first.now ∷ second.now ∷ []))) }
 {
     let first = value(alloc, first)?;
-    // What is dropped is handed over, as in `of_one`.
+    // What is dropped is handed over to a call, as in `of_one`.
     let second = match value(alloc, second) {
         Ok(second) => second,
         Err(unread) => {

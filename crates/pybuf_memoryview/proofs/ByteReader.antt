@@ -1,4 +1,4 @@
--- Items of the format `B`, as they are read without their format.
+-- Items of the format `B`, which are read without looking at their format.
 use Rattle.std.proofs.Common.{◌≡◌, ℕ, List, [], ◌∷◌, length, true, true≢false, ap, sym, ◌∙◌, arith}
 use Rattle.std.proofs.lemmas.Bool.{eqb-true}
 use Rattle.pybuf_memoryview.specs.Fits.{is_byte_format}

@@ -15,7 +15,7 @@ one_dim [] one = absurd (omega (arith, one))
 one_dim (dim ∷ []) one = refl
 one_dim (dim ∷ (other ∷ dims)) one = absurd (omega (arith, one))
 
--- the one index of an item is its number
+-- the only index of an item is its number
 pub number_is : (dims : List (ℕ × ℤ × ℤ)) (item : ℕ) → length (shape_of dims) ≡ 1 → number_of_item (item ∷ []) dims ≡ item
 number_is dims item one = ap (number_of_item (item ∷ [])) (one_dim dims one) ∙ (let same : item * 1 + 0 ≡ item = omega arith in same)
 
@@ -58,7 +58,7 @@ pub entries_of_shape : (dims : List (ℕ × ℤ × ℤ)) → map (λ dim. pos di
 entries_of_shape [] = refl
 entries_of_shape (dim ∷ dims) = ap (λ (ns : List ℤ). pos dim.0 ∷ ns) (entries_of_shape dims)
 
--- where the item of a number lies, in one dimension
+-- where the item with a number lies, in one dimension
 pub position_of_item : (d : Descriptor) (view : Layout) (start item : ℕ) (offset : ℤ) → length (shape_of d.dims) ≡ 1 → offset ≡ offset_of (item ∷ []) d.dims
     → IsPosition view start (number_of_item (item ∷ []) d.dims) (offset_of (item ∷ []) d.dims) → IsPosition view start item offset
 position_of_item d view start item offset one is at =
@@ -82,7 +82,7 @@ pub any_entry : (dims : List (ℕ × ℤ × ℤ)) → list_any (λ (dim : ℕ ×
 any_entry [] = refl
 any_entry (dim ∷ dims) = ap (λ (b : Bool). (dim.0 == 0) || b) (any_entry dims)
 
--- a shape with a zero among its entries has no item
+-- a shape with an entry of 0 has no item
 pub zero_product : (shape : List ℕ) → list_any (λ n. n == 0) shape ≡ true → product shape ≡ 0
 zero_product [] zeros = absurd (cc)
 zero_product (zero ∷ shape) zeros = zero-mul (product shape)

@@ -22,7 +22,7 @@ pub record HasEntries (dims : List (ℕ × ℤ × ℤ)) (indices : List ℤ) (of
   pub sum : offset_of entries dims ≡ offset
   pub named : item_at_indices (shape_of dims) indices ≡ Ok (number_of_item entries dims)
 
--- a position is found exactly where an item is named
+-- a position is found exactly if an item is named
 abbrev pub MatchEntries : List (ℕ × ℤ × ℤ) → List ℤ → Result ℤ Fault → Type 0
 MatchEntries dims indices (Ok offset) = HasEntries dims indices offset
 MatchEntries dims indices (Err f) = item_at_indices (shape_of dims) indices ≡ Err f
@@ -31,7 +31,7 @@ pub entry_below : (count : ℕ) (index : ℤ) (entry : ℕ) → entry_in count i
 entry_below count (pos n) entry found = grind (arith, common_steps)
 entry_below count (negsuc n) entry found = grind (arith, common_steps)
 
--- the number of an item after its first entry, and the number of the others
+-- the number of an item, from its first entry and the number that the other entries give
 abbrev number_with : ℕ → Result ℕ Fault → Result ℕ Fault → Result ℕ Fault
 number_with count first others = first >>= λ entry. others >>= λ item. Ok (entry * count + item)
 
@@ -86,7 +86,7 @@ start_at d start indices offset place found is = record {
   starts = is ∙ sym (get_or_from_slice_get (layout_at d start).starts found.item (nat_abs (pos start +ℤ offset)) 0 found.position.place);
 }
 
--- a view of no dimension has its one item at its start
+-- a view without dimensions has its one item at its start
 pub only_start : (d : Descriptor) (start : ℕ) → length (shape_of d.dims) ≡ 0 → IsStartOf (layout_at d start) (Ok 0) start
 only_start d start none = only d.dims none
   where
@@ -98,6 +98,6 @@ pub as_many : (dims : List (ℕ × ℤ × ℤ)) → length (shape_of dims) ≡ l
 as_many [] = refl
 as_many (dim ∷ dims) = ap suc (as_many dims)
 
--- as many indices as a view has dimensions
+-- there are as many indices as the view has dimensions
 pub one_each : (d : Descriptor) (start : ℕ) (view : Layout) (indices : List ℤ) → layout_at d start ≡ view → length indices ≡ length view.shape → length indices ≡ length d.dims
 one_each d start view indices is same = same ∙ ap (λ (v : Layout). length v.shape) (sym is) ∙ as_many d.dims

@@ -36,7 +36,7 @@ first_taken [] (suc start) n = grind (arith, common_steps)
 first_taken (b ∷ bytes) zero n = refl
 first_taken (b ∷ bytes) (suc start) n = first_taken bytes start n
 
--- the bytes at places one after the other
+-- the bytes at places that lie one after the other
 pub run_of_bytes : (bytes : List ℕ) (start n : ℕ) → elements_at bytes (range_with_len start n) ≡ take n (drop start bytes)
 run_of_bytes bytes start zero = refl
 run_of_bytes bytes start (suc n) =
@@ -75,13 +75,13 @@ items_inside len size (s ∷ starts) all =
     All-append (λ place. place < len) (range_with_len s size) (flat_map (λ place. range_with_len (nat_abs place) size) (map (λ x. pos x) starts))
     (run_inside len s size (All-head (λ start. start + size ≤ len) s starts all)) (items_inside len size starts (All-tail (λ start. start + size ≤ len) s starts all))
 
--- each byte of the items of a view that lie inside does
+-- if the items of a view lie inside, so does each of their bytes
 pub item_bytes_inside : ItemBytesLieInside
 item_bytes_inside d start layout room stands held =
     subst (All (λ place. place < room)) (sym (ap₂ (λ (size : ℕ) (ps : List ℤ). flat_map (λ place. range_with_len (nat_abs place) size) ps) stands.itemsize stands.starts))
     (items_inside room layout.itemsize layout.starts held)
 
--- so does each byte of the ranges of a walk over them
+-- each byte of the ranges of a walk over these items lies inside too
 pub places_inside : (bytes : List ℕ) (d : Descriptor) (start : ℕ) (layout : Layout) (ranges : List (Range ℕ)) → Stands d start layout → flat_map bytes_of ranges ≡ item_bytes d (pos start)
     → LiesInside (length bytes) layout → All (λ place. place < length bytes) (flat_map bytes_of ranges)
 places_inside bytes d start layout ranges stands same held = subst (All (λ place. place < length bytes)) (sym same) (item_bytes_inside d start layout (length bytes) stands held)
@@ -124,7 +124,7 @@ gather_step bytes gathered more total first ranges others same grown so_far =
     ∙ ap (λ (xs : List ℕ). gathered ++ xs) (sym (elements_both bytes (flat_map bytes_of first) (flat_map bytes_of others)) ∙ ap (elements_at bytes) (sym (ap (flat_map bytes_of) same ∙ flat_map-append bytes_of first others)))
     ∙ so_far
 
--- there are fewer ranges left
+-- after a line there are fewer ranges left
 pub fewer_ranges : (line : SegmentLine) (ranges others : List (Range ℕ)) → ranges ≡ ranges_of_line line ++ others → IsLine line → length others < length ranges
 fewer_ranges line ranges others same is =
     let long : length ranges ≡ line.count + length others =
@@ -132,7 +132,7 @@ fewer_ranges line ranges others same is =
     ∙ ap (λ (n : ℕ). n + length others) (length-map-range_with_len (range_on line.track.falls line.track.start line.track.step line.size) 0 line.count) in
     omega (arith, long, is.some)
 
--- as many bytes as all items have
+-- the content has as many bytes as all items have
 pub length-content : (bytes : List ℕ) (size : ℕ) (starts : List ℕ) → All (λ start. start + size ≤ length bytes) starts → length (bytes_of_items bytes size starts) ≡ size * length starts
 length-content bytes size [] inside = sym (mul-zero size)
 length-content bytes size (start ∷ starts) inside =

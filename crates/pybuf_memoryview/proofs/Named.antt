@@ -1,4 +1,4 @@
--- The items that keys name are there.
+-- The items that keys name exist.
 use Rattle.std.proofs.Common.{◌≡◌, ℕ, ◌+◌, ◌*◌, ◌<◌, List, [], ◌∷◌, length, map, Bool, true, false, true≢false, ◌∙◌, refl, subst, arith, mul_comm}
 use Rattle.std.specs.Prelude.{ℤ, ◌==◌, not, nat_lt, slice_index, Result, Ok, Err, if◌then◌else◌}
 use Rattle.std.specs.List.{list_all}
@@ -46,7 +46,7 @@ at_indices (n ∷ shape) (index ∷ indices) one_each =
     (mul-add-lt entry (product shape) item n (entry_below n index entry found)
     (done (Below shape) (item_at_indices shape indices) item (at_indices shape indices (let same : length indices ≡ length shape = omega (arith, one_each) in same)) rest))))
 
--- two lengths that are neither shorter
+-- two lengths are equal if neither is less than the other
 as_long : (a b : ℕ) → nat_lt a b ≡ false → nat_lt b a ≡ false → a ≡ b
 as_long a b below above = omega (arith, ltb-false a b below, ltb-false b a above)
 
@@ -84,7 +84,7 @@ among shape (value.One s) = of_index shape (value.One s)
 among shape (value.Slice s) = of_index shape (value.Slice s)
 among shape (value.List parts) = of_index shape (value.List parts)
 
--- a view of no dimension has one item
+-- a view without dimensions has one item
 only : (shape : List ℕ) → length shape ≡ 0 → Below shape 0
 only [] none = omega arith
 only (n ∷ shape) none = absurd (omega (arith, none))

@@ -1,4 +1,4 @@
--- Items by the entries that name them.
+-- Items are named by their entries.
 use Rattle.std.proofs.Common.{◌≡◌, ℕ, zero, suc, ◌+◌, ◌*◌, ◌<◌, List, [], ◌∷◌, map, ap, ap₂, sym, ◌∙◌, refl, subst, arith, mul_comm}
 use Rattle.std.specs.Prelude.{◌/◌, ◌%◌, pos, Result, Ok}
 use Rattle.std.proofs.lemmas.Grind.{common_steps}

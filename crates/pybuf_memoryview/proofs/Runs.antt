@@ -65,7 +65,7 @@ places_within room size (s ∷ starts) all =
     All-append (λ place. place < room) (range_with_len s size) (flat_map (λ (x : ℕ). range_with_len x size) starts)
     (run_within room s size (All-head (λ start. start + size ≤ room) s starts all)) (places_within room size starts (All-tail (λ start. start + size ≤ room) s starts all))
 
--- a run that lies within ends within
+-- if each place of a run lies inside, the run ends inside
 run_ends : (room start n : ℕ) → start ≤ room → All (λ place. place < room) (range_with_len start n) → start + n ≤ room
 run_ends room start zero low all = omega (arith, low)
 run_ends room start (suc n) low all =

@@ -1,4 +1,4 @@
--- Items of the format `B` are their one byte.
+-- An item of the format `B` is its one byte.
 use Rattle.std.proofs.Common.{◌≡◌, ℕ, ◌+◌, ◌*◌, pos, negsuc, List, [], ◌∷◌, Bool, true, false, ap, arith, refl}
 use Rattle.std.specs.Prelude.{nat_lt, Result, Ok, Err, if◌then◌else◌}
 use Rattle.std.specs.Int.{bytes_low_first}

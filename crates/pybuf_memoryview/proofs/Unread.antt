@@ -1,4 +1,4 @@
--- A format without bytes writes the same whatever is lent.
+-- A format without codes for bytes writes the same bytes, whatever is lent.
 use Rattle.std.proofs.Common.{◌≡◌, ℕ, zero, suc, ◌+◌, ◌==◌, List, [], ◌∷◌, ◌++◌, length, Bool, true, false, true≢false, ap, sym, refl}
 use Rattle.std.specs.Prelude.{◌||◌, replicate, Result, Err, if◌then◌else◌}
 use Rattle.std.specs.List.{list_any, AllByRecursion}

@@ -1,4 +1,4 @@
--- Items: what an item reads as, and which value it is written as; and the number of a key.
+-- Items: what an item is read as, which value it is written as, and the number of a key.
 use Rattle.std.specs.Prelude.{ℕ, ◌==◌, List, [], ◌∷◌, length, ℤ, pos, Bool, true, false, Result, Ok, Err}
 use Rattle.pybuf_value.specs.declared.faults.Fault.{Fault}
 use Rattle.pybuf_value.specs.declared.faults.Fault.TheVariants as fault
@@ -22,7 +22,7 @@ index_in key = do
   n ← number_of key
   fitted_number fault.Index n
 
--- a view of no dimension has no entries that an index or a slice could name
+-- refuses a view without dimensions, since it has no entry that an index or a slice could name
 abbrev pub has_dimensions : Layout → Result Bool Fault
 has_dimensions layout = unless (length layout.shape == 0) fault.Kind
 
@@ -30,13 +30,13 @@ has_dimensions layout = unless (length layout.shape == 0) fault.Kind
 abbrev pub byte_item : ℕ → Item
 byte_item b = item.One (scalar.Int (pos b))
 
--- what values read as: one as itself, any other number as a tuple
+-- the item that values are read as: one value is read as itself, and any other number of values as a tuple
 abbrev pub item_of_values : Result (List Scalar) Fault → Item
 item_of_values (Ok values) = item_of values
 item_of_values (Err f) = item.Many []
 
--- What an item's bytes read as by the text of its format. Every view has a format, of its items'
--- size; other bytes, or another text, would read as no values.
+-- What the bytes of an item are read as, by the text of its format. Every view has a format whose size is that of its
+-- items. Other bytes, or another text, would be read as no values.
 abbrev pub item_by : List ℕ → List ℕ → Item
 item_by text bytes = item_of_values (format_of text >>= λ format. unpacked_values format bytes)
 
@@ -44,13 +44,13 @@ abbrev pub is_none : Value → Bool
 is_none (value.One scalar.None) = true
 is_none _ = false
 
--- whatever refuses a value of an item, the value is of a wrong kind
+-- for whatever reason a value of an item is refused, the refusal is `TypeError`
 abbrev pub kind_fault : {X : Type 0} → Result X Fault → Result X Fault
 kind_fault (Ok x) = Ok x
 kind_fault (Err f) = Err fault.Kind
 
--- The one value that an item is written as. A tuple, a list or a slice is none, which every field
--- that looks at its value refuses, as it does an ellipsis.
+-- The one value that an item is written as. A tuple, a list or a slice isn't such a value. An ellipsis stands for it,
+-- and every field that looks at its value refuses an ellipsis.
 abbrev pub scalar_in : Value → Scalar
 scalar_in (value.One s) = s
 scalar_in _ = scalar.Ellipsis
@@ -59,8 +59,7 @@ abbrev pub is_slice : Value → Bool
 is_slice (value.Slice s) = true
 is_slice _ = false
 
--- The piece of bytes that a value is written as, by the text of a format; a handle counts as what it
--- is lent as.
+-- The piece of bytes that a value is written as, by the text of a format. A handle counts as what it is lent as.
 abbrev pub piece_by : List ℕ → List (ℕ × Snap) → Value → Result (List ℕ) Fault
 piece_by text pairs v = do
   format ← kind_fault (format_of text)

@@ -19,16 +19,16 @@ use Rattle.pybuf_memoryview.specs.Items.{index_in}
 abbrev pub is_number : Scalar → Bool
 is_number part = is_ok (number_in part)
 
--- the number of a part, where it is one
+-- the number of a part, or 0 if the part is no number
 abbrev pub part_number : Scalar → ℤ
 part_number part = result_unwrap_or (number_in part) (pos 0)
 
--- a part whose number fits a word
+-- whether the number of a part fits a word
 abbrev pub fits_word : Scalar → Bool
 fits_word part = is_word (part_number part)
 
--- The number of the item at an index for each dimension: each entry that an index names counts as
--- often as the later dimensions have items.
+-- The number of the item at these indices, with one index for each dimension. Each entry counts as many items as the
+-- later dimensions have.
 abbrev pub item_at_indices : List ℕ → List ℤ → Result ℕ Fault
 item_at_indices (n ∷ shape) (index ∷ indices) = do
   entry ← entry_in n index
@@ -36,8 +36,8 @@ item_at_indices (n ∷ shape) (index ∷ indices) = do
   Ok (entry * product shape + item)
 item_at_indices _ _ = Ok 0
 
--- Parts that aren't numbers are refused before those that don't fit, and both before too few or too
--- many.
+-- Parts that aren't numbers are refused first. Then numbers that don't fit a word are refused, and then too few or too
+-- many parts.
 abbrev pub item_of_tuple : List ℕ → List Scalar → Result ℕ Fault
 item_of_tuple shape parts = do
   _ ← unless (not (list_all is_number parts)) fault.Kind
@@ -48,20 +48,20 @@ item_of_tuple shape parts = do
 
 -- ---- any key
 
--- an index names an item of a view of one dimension alone
+-- an index names an item only in a view of one dimension
 abbrev pub item_of_index : List ℕ → Value → Result ℕ Fault
 item_of_index shape key = do
   index ← index_in key
   _ ← unless (not (length shape == 1)) fault.NotImplemented
   entry_in (slice_index shape 0) index
 
--- of a view of one dimension or more
+-- the number of the item in a view with one dimension or more
 abbrev pub item_among : List ℕ → Value → Result ℕ Fault
 item_among shape (value.Tuple parts) = item_of_tuple shape parts
 item_among shape (value.Slices (slice ∷ slices)) = Err fault.NotImplemented
 item_among shape key = item_of_index shape key
 
--- of a view of no dimension, which has one item: `()` and `...` name it
+-- the one item of a view without dimensions, which `()` and `...` name
 abbrev pub only_item : Value → Result ℕ Fault
 only_item (value.Tuple []) = Ok 0
 only_item (value.One scalar.Ellipsis) = Ok 0
@@ -71,7 +71,7 @@ only_item _ = Err fault.Kind
 abbrev pub item_of_key : List ℕ → Value → Result ℕ Fault
 item_of_key shape key = if length shape == 0 then only_item key else item_among shape key
 
--- `...` of a view of no dimension is also the view itself, where it is read
+-- whether a key reads the view itself, as `...` does in a view without dimensions
 abbrev pub names_itself : List ℕ → Value → Bool
 names_itself shape (value.One scalar.Ellipsis) = length shape == 0
 names_itself shape _ = false

@@ -5,6 +5,6 @@ use Rattle.pybuf_desc.specs.Layouts.{Layout}
 use Rattle.pybuf_desc.specs.Items.{bytes_at}
 use Rattle.pybuf_memoryview.specs.Items.{item_by}
 
--- each item as it reads, in order
+-- what each item is read as, in order
 abbrev pub items_of_layout : List ℕ → Layout → List Item
 items_of_layout bytes layout = map (λ start. item_by layout.format (bytes_at bytes layout.itemsize start)) layout.starts

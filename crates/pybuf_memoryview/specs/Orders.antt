@@ -1,4 +1,4 @@
--- How many bytes the items of a view have, and whether there are any.
+-- How many bytes the items of a view have, and whether there are items.
 use Rattle.std.specs.Prelude.{ℕ, ◌==◌, Bool, List}
 use Rattle.std.specs.List.{list_any}
 use Rattle.pybuf_desc.specs.Layouts.{Layout}
@@ -8,6 +8,6 @@ use Rattle.pybuf_memoryview.specs.Sized.{byte_count}
 abbrev pub nbytes_of : Layout → ℕ
 nbytes_of layout = byte_count layout.itemsize layout.shape
 
--- a dimension has no entry
+-- whether a dimension has no entry
 abbrev pub has_zero_entry : List ℕ → Bool
 has_zero_entry shape = list_any (λ n. n == 0) shape

@@ -1,4 +1,4 @@
--- Items by a format that was read once.
+-- Items that are read by a format whose text was read once.
 use Rattle.std.specs.Prelude.{◌≡◌, ℕ, List, [], ◌∷◌, true, Ok, ⊤}
 use Rattle.pybuf_value.specs.declared.values.Item.{Item}
 use Rattle.pybuf_value.specs.declared.values.Item.TheVariants as item
@@ -15,7 +15,7 @@ read_by reader.Byte _ = item.Many []
 read_by (reader.Fields format) bytes = item_of_values (unpacked_values format bytes)
 read_by reader.Nothing _ = item.Many []
 
--- the text of a format spells what a reader goes by
+-- the text of a format spells what a reader reads by
 abbrev pub IsSpelledBy : List ℕ → ItemReader → Type 0
 IsSpelledBy text reader.Byte = is_byte_format text ≡ true
 IsSpelledBy text (reader.Fields format) = format_of text ≡ Ok format

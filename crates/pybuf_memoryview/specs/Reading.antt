@@ -1,4 +1,4 @@
--- Which formats look at the bytes that a handle names.
+-- The formats that look at the bytes that a handle names.
 use Rattle.std.specs.Prelude.{Bool, true, false}
 use Rattle.std.specs.List.{list_any}
 use Rattle.pybuf_struct.specs.declared.table.FormatType.{FormatType}

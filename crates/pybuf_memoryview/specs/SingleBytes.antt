@@ -1,4 +1,4 @@
--- Items of the format `B`, as their code writes them.
+-- Items of the format `B`, as the code writes them.
 use Rattle.std.specs.Prelude.{ℕ, Result}
 use Rattle.pybuf_value.specs.declared.faults.Fault.{Fault}
 use Rattle.pybuf_value.specs.declared.values.Value.{Value}

@@ -1,4 +1,4 @@
--- What a view is lent as.
+-- The snap that a view is lent as: a copy of what the view has at that moment.
 use Rattle.std.specs.Prelude.{ℕ, Bool, List, [], true, false, if◌then◌else◌}
 use Rattle.pybuf_value.specs.declared.snaps.Snap.{Snap}
 use Rattle.pybuf_value.specs.declared.snaps.SnapKind.TheVariants as kind
@@ -6,7 +6,7 @@ use Rattle.pybuf_desc.specs.Layouts.{Layout}
 use Rattle.pybuf_desc.specs.Items.{content_of_layout}
 use Rattle.pybuf_desc.specs.Contiguous.{is_contiguous_layout}
 
--- a view over these bytes as it stands; there is nothing in one that was released
+-- the snap of a view over these bytes, as the view stands; it has no bytes if the view was released
 abbrev pub snap_of_layout : List ℕ → Layout → Bool → Snap
 snap_of_layout bytes layout released = record {
   kind = kind.View;
@@ -18,6 +18,6 @@ snap_of_layout bytes layout released = record {
   released = released;
 }
 
--- an unreleased view as a copy of its bytes has it, where its items lie one after the other
+-- the snap of an unreleased view that a copy of its bytes has: its items lie one after the other
 abbrev pub snap_of_copy : List ℕ → Layout → Snap
 snap_of_copy bytes layout = record (snap_of_layout bytes layout false) { contiguous = true }

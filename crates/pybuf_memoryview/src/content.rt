@@ -68,7 +68,7 @@ pub fn column_content_of(alloc: Global, bytes: &[u8], layout: &KeptLayout) -> Ma
     if layout.has_zero() {
         return Ok(Vec::new(alloc));
     }
-    // That there is an item for each entry is told where the layout is taken apart.
+    // The prover asks for this: taking the layout apart tells that there is an item for each combination of entries.
     let _ = layout.placed();
     let columns = layout.columns(alloc)?;
     content_of(alloc, bytes, &columns)

@@ -1,4 +1,4 @@
--- Which end of bytes is looked at for an affix.
+-- The end at which bytes are searched for an affix.
 use Rattle.std.specs.Prelude.{ℕ, Bool, List}
 use Rattle.pybuf_search.specs.Ends.{begins_with, ends_with}
 use Rattle.pybuf_methods.specs.declared.affixes.End.{End}

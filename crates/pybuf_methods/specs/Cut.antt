@@ -1,4 +1,4 @@
--- Methods that cut.
+-- Methods that cut bytes.
 use Rattle.std.specs.Prelude.{ℕ, ℤ, negsuc, Bool, List, Option, Result, Ok}
 use Rattle.pybuf_value.specs.declared.faults.Fault.{Fault}
 use Rattle.pybuf_value.specs.declared.snaps.Snap.{Snap}
@@ -14,21 +14,21 @@ use Rattle.pybuf_bytes.specs.declared.methods.MethodReply.{MethodReply}
 use Rattle.pybuf_bytes.specs.declared.methods.MethodReply.TheVariants as reply
 use Rattle.pybuf_methods.specs.Given.{one, at_most_one, at_most_two, flag_given, bytes_given}
 
--- without the bytes of a set, or the blanks, at one end or both
+-- the bytes without those of a set, or without blanks, at one end or both
 abbrev pub strip : ((ℕ → Bool) → List ℕ → List ℕ) → List (ℕ × Snap) → List ℕ → List Value → Result MethodReply Fault
 strip side pairs bytes args = do
   given ← at_most_one args
   chars ← bytes_given pairs given
   Ok (reply.Bytes (side (goes chars) bytes))
 
--- without a prefix or a suffix
+-- the bytes without a prefix or a suffix
 abbrev pub remove : (List ℕ → List ℕ → List ℕ) → List (ℕ × Snap) → List ℕ → List Value → Result MethodReply Fault
 remove without pairs bytes args = do
   given ← one args
   affix ← bytes_in pairs given
   Ok (reply.Bytes (without bytes affix))
 
--- from the left or from the right; any number of cuts where none is given
+-- the parts, cut from the left or from the right; if no number of cuts is given, there may be any number
 abbrev pub split : (Option (List ℕ) → ℤ → List ℕ → Result (List (List ℕ)) Fault) → List (ℕ × Snap) → List ℕ → List Value → Result MethodReply Fault
 split parts_by pairs bytes args = do
   given ← at_most_two args

@@ -18,12 +18,12 @@ use Rattle.pybuf_value.specs.Texts.{text_in}
 
 -- ---- what stops a call
 
--- an answer that is refused, or that wants memory
+-- why a call stops: its answer is this refusal; if memory ran out, nothing is said
 abbrev pub IsStopped : {X E : Type 0} → Result (Outcome X) E → Halt → Type 0
 IsStopped answer (halt.Refused f) = answer ≡ Ok (outcome.Refused f)
 IsStopped answer halt.NoMemory = Unit {0}
 
--- ---- how many there are: any other number is a wrong call
+-- ---- how many there are: a call with any other number is refused
 
 abbrev pub none : List Value → Result (Unit {0}) Fault
 none [] = Ok tt
@@ -66,7 +66,7 @@ one_to_three _ = Err fault.Kind
 
 -- ---- what each stands for
 
--- a bound: `None` is no bound
+-- a bound, where `None` stands for no bound
 abbrev pub bound_in : Value → Result (Option ℤ) Fault
 bound_in (value.One scalar.None) = Ok None
 bound_in v = do
@@ -77,7 +77,7 @@ abbrev pub bound_given : Option Value → Result (Option ℤ) Fault
 bound_given None = Ok None
 bound_given (Some v) = bound_in v
 
--- whether a number isn't 0
+-- whether a number is other than 0
 abbrev pub nonzero : ℤ → Bool
 nonzero (pos n) = nat_lt 0 n
 nonzero (negsuc n) = true
@@ -88,7 +88,7 @@ flag_given (Some v) = do
   n ← number_of v
   Ok (nonzero n)
 
--- bytes: `None` is none
+-- the bytes of a value, where `None` stands for no bytes
 abbrev pub bytes_if : List (ℕ × Snap) → Value → Result (Option (List ℕ)) Fault
 bytes_if pairs (value.One scalar.None) = Ok None
 bytes_if pairs v = do
@@ -99,7 +99,7 @@ abbrev pub bytes_given : List (ℕ × Snap) → Option Value → Result (Option 
 bytes_given pairs None = Ok None
 bytes_given pairs (Some v) = bytes_if pairs v
 
--- a text: `None` is none
+-- the text of a value, where `None` stands for no text
 abbrev pub text_if : Value → Result (Option (List ℕ)) Fault
 text_if (value.One scalar.None) = Ok None
 text_if v = do
@@ -110,7 +110,7 @@ abbrev pub text_given : Option Value → Result (Option (List ℕ)) Fault
 text_given None = Ok None
 text_given (Some v) = text_if v
 
--- the bytes of a text, of a bytes value, or of an exporter of kind bytes
+-- the bytes of a text, of a bytes value, or of an exporter whose kind is bytes
 abbrev pub separator_in : List (ℕ × Snap) → Value → Result (List ℕ) Fault
 separator_in pairs (value.One (scalar.Text text)) = Ok text
 separator_in pairs (value.One s) = bytes_alone pairs s
@@ -122,7 +122,7 @@ separator_given pairs (Some v) = do
   bytes ← separator_in pairs v
   Ok (Some bytes)
 
--- the bytes of each part of a list or a tuple; the first part that is none decides
+-- the bytes of each part of a list or a tuple; the first part that has none is refused
 abbrev pub each_in : List (ℕ × Snap) → List Scalar → Result (List (List ℕ)) Fault
 each_in pairs [] = Ok []
 each_in pairs (part ∷ parts) = do

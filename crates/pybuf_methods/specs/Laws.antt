@@ -7,6 +7,6 @@ use Rattle.pybuf_command.specs.declared.methods.MethodName.{MethodName}
 use Rattle.pybuf_command.specs.Arity.{takes}
 use Rattle.pybuf_methods.specs.Methods.{method_reply}
 
--- a call with another number of arguments than its method takes is a wrong kind
+-- a call with a number of arguments that its method doesn't take is refused with `TypeError`
 abbrev pub WrongNumbersAreRefused : Type 0
 WrongNumbersAreRefused = (pairs : List (ℕ × Snap)) (bytes : List ℕ) (name : MethodName) (args : List Value) → takes name (length args) ≡ false → method_reply pairs bytes name args ≡ Err fault.Kind

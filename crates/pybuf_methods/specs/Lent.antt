@@ -1,4 +1,4 @@
--- Bytes of arguments that may be missing, of many, and in a vector.
+-- Bytes of arguments: those that may be missing, those of many arguments, and those in a vector.
 use Rattle.std.specs.Prelude.{◌≡◌, ℕ, List, map, Option, Some, None, Result, Ok, Err}
 use Rattle.pybuf_value.specs.declared.faults.Fault.{Fault}
 use Rattle.pybuf_value.specs.declared.faults.Fault.TheVariants as fault
@@ -14,13 +14,13 @@ abbrev pub lent_option : Option Lent → Option (List ℕ)
 lent_option (Some l) = Some (lent_bytes l)
 lent_option None = None
 
--- a result is these bytes where any are wanted, or their refusal, unless memory runs out
+-- a result is these bytes if any are wanted, or their refusal; if memory runs out, nothing is said
 abbrev pub LendsSome : Result (Option (List ℕ)) Fault → Result (Option Lent) Halt → Type 0
 LendsSome wanted (Ok l) = wanted ≡ Ok (lent_option l)
 LendsSome wanted (Err (halt.Refused f)) = wanted ≡ Err f
 LendsSome wanted (Err halt.NoMemory) = Unit {0}
 
--- the bytes of what is Python's `bytes` or `bytearray`; a handle that was never given is refused first
+-- the bytes of Python's `bytes` or `bytearray`; any other value is refused
 abbrev pub string_or : Option (List ℕ) → Result (List ℕ) Fault
 string_or (Some bytes) = Ok bytes
 string_or None = Err fault.Kind
@@ -29,13 +29,13 @@ abbrev pub string_named : Option Snap → Result (List ℕ) Fault
 string_named None = Err fault.UnknownName
 string_named (Some snap) = string_or (string_of_named (Some snap))
 
--- the same of bytes in a vector
+-- the same for bytes in a vector
 abbrev pub Reads : Result (List ℕ) Fault → Result (Vec ℕ) Halt → Type 0
 Reads wanted (Ok bytes) = wanted ≡ Ok bytes.items
 Reads wanted (Err (halt.Refused f)) = wanted ≡ Err f
 Reads wanted (Err halt.NoMemory) = Unit {0}
 
--- the same of many
+-- the same for the bytes of many arguments
 abbrev pub LendsEach : Result (List (List ℕ)) Fault → Result (Vec Lent) Halt → Type 0
 LendsEach wanted (Ok lents) = wanted ≡ Ok (map lent_bytes lents.items)
 LendsEach wanted (Err (halt.Refused f)) = wanted ≡ Err f

@@ -20,7 +20,7 @@ use Rattle.pybuf_methods.specs.Sought as sought
 use Rattle.pybuf_methods.specs.Shaped as shaped
 use Rattle.pybuf_methods.specs.Cut as cut
 
--- By what the handles name, of some bytes, by the method's name and the arguments that are given.
+-- The reply is decided by what the handles name, by the bytes, by the method's name, and by its arguments.
 abbrev pub method_reply : List (ℕ × Snap) → List ℕ → MethodName → List Value → Result MethodReply Fault
 method_reply pairs bytes name.Add args = plain.add pairs bytes args
 method_reply pairs bytes name.Concat args = plain.concat pairs bytes args

@@ -1,4 +1,4 @@
--- Methods that ask for a class or change a case, and sums.
+-- Methods that ask for a class of bytes or change letter cases, and methods that add bytes or repeat them.
 use Rattle.std.specs.Prelude.{ℕ, Bool, List, ◌++◌, Result, Ok}
 use Rattle.bstr.specs.Owned.{joined}
 use Rattle.pybuf_value.specs.declared.faults.Fault.{Fault}
@@ -13,7 +13,7 @@ use Rattle.pybuf_bytes.specs.declared.methods.MethodReply.{MethodReply}
 use Rattle.pybuf_bytes.specs.declared.methods.MethodReply.TheVariants as reply
 use Rattle.pybuf_methods.specs.Given.{none, one, lists_in}
 
--- what a method without arguments answers, or that there are some
+-- what a method without arguments answers; it refuses any argument
 abbrev pub truth : Bool → List Value → Result MethodReply Fault
 truth answer args = do
   _ ← none args

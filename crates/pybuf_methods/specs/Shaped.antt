@@ -18,7 +18,7 @@ use Rattle.pybuf_bytes.specs.declared.methods.MethodReply.{MethodReply}
 use Rattle.pybuf_bytes.specs.declared.methods.MethodReply.TheVariants as reply
 use Rattle.pybuf_methods.specs.Given.{one, two, at_most_one, at_most_two, one_or_two, two_or_three, separator_given, text_given}
 
--- the digits of bytes by the arguments: a group is of one byte where no size is given
+-- the digits of bytes, by the arguments; a group is one byte if no size is given
 abbrev pub hex_of : List (ℕ × Snap) → Option Value → Option Value → List ℕ → Result (List ℕ) Fault
 hex_of pairs sep group bytes = do
   separator ← separator_given pairs sep
@@ -38,7 +38,7 @@ fromhex args = do
   bytes ← bytes_of_hex text
   Ok (reply.Bytes bytes)
 
--- the width first, and a space where no fill byte is given
+-- the width, and then the fill byte, which is a space if none is given
 abbrev pub width_and_fill : List (ℕ × Snap) → List Value → Result (ℤ × ℕ) Fault
 width_and_fill pairs args = do
   given ← one_or_two args
@@ -46,7 +46,7 @@ width_and_fill pairs args = do
   fill ← fill_of pairs given.1
   Ok (width, fill)
 
--- to a width, in one of three ways
+-- the bytes, padded to a width in one of three ways
 abbrev pub padded : (ℤ → ℕ → List ℕ → List ℕ) → List (ℕ × Snap) → List ℕ → List Value → Result MethodReply Fault
 padded shape pairs bytes args = do
   given ← width_and_fill pairs args
@@ -79,7 +79,7 @@ translate pairs bytes args = do
   whole ← translation pairs (Some given.0) given.1 bytes
   Ok (reply.Bytes whole)
 
--- all matches where no number is given
+-- the bytes with others in place of matches; all matches are replaced if no number is given
 abbrev pub replace : List (ℕ × Snap) → List ℕ → List Value → Result MethodReply Fault
 replace pairs bytes args = do
   given ← two_or_three args

@@ -1,4 +1,4 @@
--- Methods that search.
+-- Methods that search in bytes.
 use Rattle.std.specs.Prelude.{ℕ, ℤ, pos, negsuc, Bool, List, length, Option, Some, None, Result, Ok, Err}
 use Rattle.pybuf_value.specs.declared.faults.Fault.{Fault}
 use Rattle.pybuf_value.specs.declared.faults.Fault.TheVariants as fault
@@ -14,13 +14,13 @@ use Rattle.pybuf_bytes.specs.declared.methods.MethodReply.{MethodReply}
 use Rattle.pybuf_bytes.specs.declared.methods.MethodReply.TheVariants as reply
 use Rattle.pybuf_methods.specs.Given.{one_to_three, bound_given}
 
--- what is searched for: the bytes of the needle that a value is
+-- the bytes that a value asks to search for
 abbrev pub sought_in : List (ℕ × Snap) → Value → Result (List ℕ) Fault
 sought_in pairs v = do
   sub ← needle_in pairs v
   needle_bytes sub
 
--- whether it stands anywhere in bytes
+-- whether the bytes that a value asks for stand anywhere
 abbrev pub contains_in : List (ℕ × Snap) → List ℕ → Value → Result Bool Fault
 contains_in pairs bytes v = contains_by (sought_in pairs v) bytes
 
@@ -33,7 +33,7 @@ place search pairs bytes args = do
   end ← bound_given given.2
   Ok (place_in_range search bytes needle (adjusted start end (length bytes)))
 
--- a place as a number: -1 where nothing was found
+-- a place as a number, which is -1 if nothing was found
 abbrev pub number_of_place : Option ℕ → ℤ
 number_of_place None = negsuc 0
 number_of_place (Some place) = pos place
@@ -43,7 +43,7 @@ find search pairs bytes args = do
   found ← place search pairs bytes args
   Ok (reply.Number (number_of_place found))
 
--- a place that was found; that there is none is a wrong value
+-- the place that was found; if nothing was found, the call is refused with `ValueError`
 abbrev pub found_place : Option ℕ → Result MethodReply Fault
 found_place None = Err fault.Value
 found_place (Some place) = Ok (reply.Number (pos place))

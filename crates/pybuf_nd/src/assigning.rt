@@ -67,7 +67,8 @@ pub fn assign(state: &mut ExporterState, target: &PyBuffer, bytes: &[u8]) -> Res
     if bytes.is_empty() {
         return Ok(());
     }
-    // The descriptor is lent by the exporter, whose bytes are written: what the walk needs of it is kept beside.
+    // The exporter lends the descriptor, and its bytes are written. So what the walk needs of the descriptor is kept
+    // apart from it.
     let size = desc.itemsize();
     let mut kept = [(0, 0, 0); 64];
     let count = keep_dims(&mut kept, desc.dim_desc());

@@ -97,7 +97,7 @@ fn bytes_turned(alloc: Global, input: &[u8], view: &KeptLayout, transposed: bool
     }
     match turn(alloc, view)? {
         Outcome::Done(turned) => content_of(alloc, input, &turned),
-        // a dimension has no entry
+        // this is refused if a dimension has no entry, and then there are no bytes
         Outcome::Refused(_) => Ok(Vec::new(alloc)),
     }
 }
@@ -128,7 +128,7 @@ impl Selection {
         let whole = in_shape(alloc, input.len(), self.shape.as_slice())?;
         match cut(alloc, &whole, self.slices.as_slice())? {
             Outcome::Done(view) => bytes_turned(alloc, input, &view, self.transposed),
-            // nothing is picked in a dimension
+            // this is refused if a slice picks nothing, and then there are no bytes
             Outcome::Refused(_) => Ok(Vec::new(alloc)),
         }
     }

@@ -1,5 +1,5 @@
--- The codes of arrays of whole numbers: the letter of each, its size and its range, which are those of the native
--- format of that letter.
+-- The codes of arrays of whole numbers: the letter of each code, its size and its range. These are those of the native
+-- format with that letter.
 use Rattle.std.specs.Prelude.{ℕ, ◌^◌, ◌==◌, Bool, List, [], ◌∷◌, Option, ℤ, pos}
 use Rattle.std.specs.List.{find}
 use Rattle.pybuf_struct.specs.declared.table.FormatType.{FormatType}
@@ -36,18 +36,18 @@ letter_of c = table.letter (format_of_code c)
 abbrev pub code_of : ℕ → Option ArrayCode
 code_of b = find (λ c. letter_of c == b) every_code
 
--- the bytes of one number
+-- how many bytes one number takes
 abbrev pub size_of : ArrayCode → ℕ
 size_of c = table.size_of order.Native (format_of_code c)
 
--- whether its numbers are in two's complement
+-- whether the numbers of a code are in two's complement
 abbrev pub is_signed : ArrayCode → Bool
 is_signed c = table.is_signed (format_of_code c)
 
--- how many numbers it has
+-- how many different numbers a code has
 abbrev pub modulus_of : ArrayCode → ℤ
 modulus_of c = pos (256 ^ size_of c)
 
--- whether a number is in its range
+-- whether a number is in the range of a code
 abbrev pub holds : ArrayCode → ℤ → Bool
 holds c n = packing.is_in_range (is_signed c) (size_of c) n

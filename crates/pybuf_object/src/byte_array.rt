@@ -269,7 +269,7 @@ impl PyByteArray {
     /// Refused with `TypeError` where the value is no number, with `ValueError` outside `0..256`, and
     /// then with `BufferError` where a view is unreleased.
     /// Example: to `bytearray(b"abc")` the value 100 makes `bytearray(b"abcd")`, and 256 is refused with `ValueError`.
-    // in line, since else the values are moved here to be let go of
+    // This is in line, since otherwise the values are moved here before they are dropped.
     #[inline(always)]
     pub fn append(&mut self, value: Value, loans: LoanList) -> Made<LocalReply>
         requires { LoansFit loans }
@@ -324,7 +324,7 @@ impl PyByteArray {
     /// Refused with `TypeError` where the index is no number, with `OverflowError` where it doesn't fit
     /// `isize`, with `BufferError` where a view is unreleased, and then with `IndexError` out of range.
     /// Example: of `bytearray(b"!XYZc")` without an index it replies the item 99, and leaves `bytearray(b"!XYZ")`.
-    // in line, since else the values are moved here to be let go of
+    // This is in line, since otherwise the values are moved here before they are dropped.
     #[inline(always)]
     pub fn pop(&mut self, index: Option<Value>, loans: LoanList) -> Made<LocalReply>
         requires { LoansFit loans }

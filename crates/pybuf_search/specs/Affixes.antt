@@ -13,7 +13,7 @@ use Rattle.pybuf_value.specs.Snaps.{bytes_in}
 use Rattle.pybuf_search.specs.Ends.{begins_with, ends_with}
 use Rattle.pybuf_search.specs.Bounds.{between_bounds}
 
--- whether one of some values satisfies a test: the first that does, or that is refused, decides
+-- whether one of some values satisfies a test; the first value that does, or that is refused, decides
 abbrev pub any_of : (List ℕ → Bool) → List (ℕ × Snap) → List Scalar → Result Bool Fault
 any_of test pairs [] = Ok false
 any_of test pairs (part ∷ parts) = do
@@ -26,13 +26,13 @@ single_or_any_of test pairs v = do
   bytes ← bytes_in pairs v
   Ok (test bytes)
 
--- a test that a closure makes of bytes that it is lent
+-- a closure that is lent bytes answers what the test says
 abbrev pub IsTested : (Bor (List ℕ) → Bool → Type 0) → (List ℕ → Bool) → Type 0
 IsTested post test = (bytes : Bor (List ℕ)) (answer : Bool) → post bytes answer → answer ≡ test bytes.now
 
--- a result of values that are tested in order, up to the first that is refused or for which the test answers yes. Of
--- the first of them the bytes are given, or the refusal; `answers` tells what the test may answer for bytes, and
--- `Further` what the result of the values behind it is.
+-- A result of values that are tested in order, up to the first that is refused or for which the test answers yes. The
+-- bytes of the first value are given, or its refusal. `answers` says what the test may answer for bytes, and `Further`
+-- says what the result of the values behind it is.
 abbrev pub IsAnyFrom : (List ℕ → Bool → Type 0) → Result (List ℕ) Fault → (Result Bool Fault → Type 0) → Result Bool Fault → Type 0
 IsAnyFrom answers (Err f) Further result = result ≡ Err f
 IsAnyFrom answers (Ok bytes) Further result = (answers bytes true × (result ≡ Ok true)) ⊎ (answers bytes false × Further result)
@@ -42,23 +42,24 @@ IsAnyOf answers pairs [] result = result ≡ Ok false
 IsAnyOf answers pairs (part ∷ parts) result =
     IsAnyFrom answers (bytes_in pairs (value.One part)) (IsAnyOf answers pairs parts) result
 
--- a result of one test of bytes: what the test may answer for them, or their refusal, whatever it may answer
+-- a result of one test of bytes: what the test may answer for them, or their refusal, whatever the test may answer
 abbrev pub IsTestOf : (List ℕ → Bool → Type 0) → Result (List ℕ) Fault → Result Bool Fault → Type 0
 IsTestOf answers (Err f) result = result ≡ Err f
 IsTestOf answers (Ok bytes) result = (answer : Bool) × answers bytes answer × (result ≡ Ok answer)
 
--- a result of tests of one value, or of the parts of a tuple in order
+-- a result of testing one value, or the parts of a tuple in order
 abbrev pub IsSingleOrAnyOf : (List ℕ → Bool → Type 0) → List (ℕ × Snap) → Value → Result Bool Fault → Type 0
 IsSingleOrAnyOf answers pairs (value.Tuple parts) result = IsAnyOf answers pairs parts result
 IsSingleOrAnyOf answers pairs v result = IsTestOf answers (bytes_in pairs v) result
 
--- what holds of a result, or of the refusal in its place, unless memory runs out
+-- a property holds of a result or of the refusal in its place; if memory runs out, nothing is said
 abbrev pub IfGiven : {X : Type 0} → (Result X Fault → Type 0) → Result X Halt → Type 0
 IfGiven P (Ok x) = P (Ok x)
 IfGiven P (Err (halt.Refused f)) = P (Err f)
 IfGiven P (Err halt.NoMemory) = Unit {0}
 
--- an affix, or one of a tuple of them, in the bytes between two bounds; false where the start passes the end
+-- whether bytes between two bounds pass the test with an affix, or with one of a tuple of them; false if the start
+-- passes the end
 abbrev pub test_in : (List ℕ → List ℕ → Bool) → List (ℕ × Snap) → Value → Option (List ℕ) → Result Bool Fault
 test_in test pairs affix None = Ok false
 test_in test pairs affix (Some part) = single_or_any_of (test part) pairs affix

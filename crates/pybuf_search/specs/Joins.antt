@@ -1,8 +1,8 @@
--- Bytes put together, where they are not too many.
+-- Bytes that are put together, if there are not too many.
 use Rattle.std.specs.Prelude.{ℕ, ◌^◌, nat_lt, List, ◌++◌, Option, Some, None, if◌then◌else◌}
 use Rattle.std.specs.List.{flat_map}
 
--- the length, where it is at most `isize::MAX`
+-- the length if it is at most `isize::MAX`
 abbrev pub fitted_length : ℕ → Option ℕ
 fitted_length total = if nat_lt total (2 ^ 63) then Some total else None
 

@@ -1,4 +1,4 @@
--- What matches, cuts and the removal of ends are, beside their definitions.
+-- What is promised of matches, of cuts, and of bytes without a prefix or a suffix.
 use Rattle.std.specs.Prelude.{◌≡◌, ℕ, ℤ, ◌+◌, ◌-◌, ◌<◌, ◌≤◌, List, [], ◌∷◌, ◌++◌, length}
 use Rattle.std.specs.List.{concat}
 use Rattle.memchr.specs.Find.{OccursAt, match_len}
@@ -20,16 +20,16 @@ pub record IsGreatest (bytes needle : List ℕ) (end place : ℕ) : Type 0 where
   pub stands : OccursAt bytes needle place
   pub none_after : (k : ℕ) → place < k → k < end → ¬ OccursAt bytes needle k
 
--- Each place is the least from `from` on, or from the end of the match before it on, at which the
--- needle stands, and behind the last match it stands nowhere. A match of an empty needle ends one
--- place on (`match_len`), so that the next place is a match too.
+-- Each place is the least one, from a bound on, at which the needle stands. The bound is `from` at first, and then the
+-- end of the match before. Behind the last match the needle stands nowhere. A match of an empty needle ends one place
+-- on (`match_len`), so that the next place is a match too.
 unfoldable pub AreFromLeft : List ℕ → List ℕ → ℕ → List ℕ → Type 0
 AreFromLeft bytes needle from [] = (k : ℕ) → from ≤ k → ¬ OccursAt bytes needle k
 AreFromLeft bytes needle from (place ∷ places) =
     IsLeast bytes needle from place × AreFromLeft bytes needle (place + match_len needle) places
 
--- Each place is the greatest below `end` at which the needle stands, or the greatest of a match that
--- ends at or before the one listed before it; before the last one listed no such match stands.
+-- Each place is the greatest one below a bound at which the needle stands. The bound is `end` at first. Then it is
+-- chosen so that the match ends at or before the one listed before it. Before the last one listed no such match stands.
 unfoldable pub AreFromRight : List ℕ → List ℕ → ℕ → List ℕ → Type 0
 AreFromRight bytes needle end [] = (k : ℕ) → k < end → ¬ OccursAt bytes needle k
 AreFromRight bytes needle end (place ∷ places) =
@@ -48,7 +48,7 @@ MatchesAreFromRight =
 abbrev pub EmptyStandsEverywhere : Type 0
 EmptyStandsEverywhere = (bytes : List ℕ) → number_of_matches bytes [] ≡ length bytes + 1
 
--- what was split, joined by the separator, is the bytes
+-- the parts of a split, joined by the separator, are the bytes
 abbrev pub SplitJoinsBack : Type 0
 SplitJoinsBack = (most : ℤ) (separator bytes : List ℕ) → joined separator (split_parts most separator bytes) ≡ bytes
 
@@ -64,21 +64,21 @@ RpartitionIsWhole = (separator bytes : List ℕ) → concat (rpartition_parts se
 
 -- ---- what bytes begin and end with
 
--- the bytes are the prefix and some more behind it
+-- the bytes are the prefix and some bytes behind it
 abbrev pub BeginsWith : List ℕ → List ℕ → Type 0
 BeginsWith bytes prefix = (rest : List ℕ) × (bytes ≡ prefix ++ rest)
 
--- the bytes are some and the suffix behind them
+-- the bytes are some bytes and the suffix behind them
 abbrev pub EndsWith : List ℕ → List ℕ → Type 0
 EndsWith bytes suffix = (rest : List ℕ) × (bytes ≡ rest ++ suffix)
 
--- Where the bytes begin with the prefix, it and what is left of them, put together, are the bytes. Where they
--- don't, they stay as they are.
+-- If the bytes begin with the prefix, they are the prefix and what is left of them, put together. If they don't, they
+-- stay as they are.
 pub record PrefixIsRemoved (bytes prefix : List ℕ) : Type 0 where
   pub whole : BeginsWith bytes prefix → prefix ++ without_prefix bytes prefix ≡ bytes
   pub same : ¬ BeginsWith bytes prefix → without_prefix bytes prefix ≡ bytes
 
--- The same of a suffix that stands behind what is left.
+-- The same for a suffix, which stands behind what is left.
 pub record SuffixIsRemoved (bytes suffix : List ℕ) : Type 0 where
   pub whole : EndsWith bytes suffix → without_suffix bytes suffix ++ suffix ≡ bytes
   pub same : ¬ EndsWith bytes suffix → without_suffix bytes suffix ≡ bytes

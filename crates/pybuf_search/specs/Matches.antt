@@ -7,7 +7,7 @@ use Rattle.memchr.specs.Find.{matches, rmatches}
 abbrev pub matches_from_left : List ℕ → List ℕ → List ℕ
 matches_from_left bytes needle = matches bytes needle 0
 
--- The same from the end: the greatest place at which the needle stands, then the greatest of a match
--- that ends at or before that one, and so on. (`AreFromRight` of the laws says so.)
+-- The same from the end: the greatest place at which the needle stands, then the greatest place of a match that ends at
+-- or before that one, and so on. (`AreFromRight` of the laws says so.)
 abbrev pub matches_from_right : List ℕ → List ℕ → List ℕ
 matches_from_right bytes needle = rmatches bytes needle (length bytes)

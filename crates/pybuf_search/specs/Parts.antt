@@ -4,12 +4,12 @@ use Rattle.bstr.specs.Text.{split_at, rsplit_at}
 use Rattle.pybuf_search.specs.Matches.{matches_from_left, matches_from_right}
 use Rattle.pybuf_search.specs.Places.{first_place, last_place}
 
--- as many of the matches as there may be cuts: all of them where the greatest number is negative
+-- the matches at which bytes are cut: this many of them, and all of them if the number is negative
 abbrev pub cuts : ℤ → List ℕ → List ℕ
 cuts (pos most) matches = take most matches
 cuts (negsuc _) matches = matches
 
--- how many parts there may be, as a machine word: one more than cuts, and any number where that is negative
+-- how many parts there may be, as a machine word: one more than cuts, and any number if the number of cuts is negative
 abbrev pub parts_allowed : ℤ → ℕ
 parts_allowed (pos most) = most + 1
 parts_allowed (negsuc _) = 2 ^ 64 - 1
@@ -25,25 +25,27 @@ rsplit_parts most separator bytes =
 
 -- ---- one cut
 
--- what stands before a match, whether there is one, and what stands behind it; all before it if there is none
+-- what stands before a match, whether there is one, and what stands behind it; without a match, all bytes stand before
+-- it
 abbrev pub around : List ℕ → List ℕ → Option ℕ → List ℕ × Bool × List ℕ
 around separator bytes None = (bytes, false, [])
 around separator bytes (Some place) = (take place bytes, true, drop (place + length separator) bytes)
 
--- the same of the last match, with what stands behind it first; all behind it if there is none
+-- what stands behind the last match, whether there is one, and what stands before it; without a match, all bytes stand
+-- behind it
 abbrev pub around_last : List ℕ → List ℕ → Option ℕ → List ℕ × Bool × List ℕ
 around_last separator bytes None = (bytes, false, [])
 around_last separator bytes (Some place) = (drop (place + length separator) bytes, true, take place bytes)
 
--- front, whether the separator stands there, and back
+-- the front, whether the separator was found, and the back
 abbrev pub partition_of : List ℕ → List ℕ → List ℕ × Bool × List ℕ
 partition_of separator bytes = around separator bytes (first_place bytes separator)
 
--- back, whether the separator stands there, and front
+-- the back, whether the separator was found, and the front
 abbrev pub rpartition_of : List ℕ → List ℕ → List ℕ × Bool × List ℕ
 rpartition_of separator bytes = around_last separator bytes (last_place bytes separator)
 
--- the separator where it was found
+-- the separator if it was found, else nothing
 abbrev pub middle : List ℕ → Bool → List ℕ
 middle separator true = separator
 middle separator false = []

@@ -9,7 +9,7 @@ use pybuf_value::{ByteList, Fault, Lent};
 ///
 /// Example: a `ByteList` of `b"ab"` and a `Lent` of the same bytes both lend `b"ab"`.
 pub trait AnyStrWrapper {
-    // The bytes.
+    // The bytes that are lent.
     ghost bytes: { Self → List ℕ };
 
     /// The bytes, lent.

@@ -17,7 +17,7 @@ fn bytes_of(options: ByteInnerNewOptions) -> Option<ByteList>
         encoding,
         errors,
     } = options;
-    // What is dropped is handed over: a value that ends with its scope would spell out all its variants.
+    // What is dropped is handed over to a call. If it ended with its scope, the drop would spell out all its variants.
     if encoding.is_some() {
         drop(source);
         drop(encoding);

@@ -16,12 +16,12 @@ use Rattle.pybuf_shaping.specs.Tables.{all_bytes, translated}
 
 -- ---- fill bytes
 
--- one byte alone
+-- the byte, if there is exactly one
 abbrev pub single : Option (List ℕ) → Result ℕ Fault
 single (Some (b ∷ [])) = Ok b
 single _ = Err fault.Kind
 
--- a handle that was never given is refused first
+-- the fill byte that a handle names; a handle that was never given is refused first
 abbrev pub fill_of_named : Option Snap → Result ℕ Fault
 fill_of_named None = Err fault.UnknownName
 fill_of_named (Some snap) = single (content_of_string snap.kind snap.content)
@@ -31,12 +31,12 @@ abbrev pub fill_in : List (ℕ × Snap) → Value → Result ℕ Fault
 fill_in pairs (value.One (scalar.Handle h)) = fill_of_named (snap_of pairs h)
 fill_in pairs v = single (string_bytes_of pairs v)
 
--- a space where none is given
+-- the fill byte, or a space if none is given
 abbrev pub fill_of : List (ℕ × Snap) → Option Value → Result ℕ Fault
 fill_of pairs None = Ok (byte " ")
 fill_of pairs (Some v) = fill_in pairs v
 
--- the bytes filled up by what is given
+-- the bytes, filled up by what is given
 abbrev pub filled : (ℕ → List ℕ → List ℕ) → List (ℕ × Snap) → Option Value → List ℕ → Result (List ℕ) Fault
 filled shape pairs v bytes = do
   fill ← fill_of pairs v
@@ -48,7 +48,7 @@ filled shape pairs v bytes = do
 abbrev pub full_table : List ℕ → Result (List ℕ) Fault
 full_table table = if length table == 256 then Ok table else Err fault.Value
 
--- what can't be read as bytes is a wrong value; a handle that was never given stays one
+-- a table as it is read: what can't be read as bytes is a wrong value, but a handle that was never given stays unknown
 abbrev pub table_read : Result (List ℕ) Fault → Result (List ℕ) Fault
 table_read (Ok table) = full_table table
 table_read (Err fault.UnknownName) = Err fault.UnknownName
@@ -58,12 +58,12 @@ abbrev pub table_in : List (ℕ × Snap) → Value → Result (List ℕ) Fault
 table_in pairs (value.One scalar.None) = Ok all_bytes
 table_in pairs v = table_read (bytes_in pairs v)
 
--- the table that maps each byte to itself where none is given
+-- the table, or the one that maps each byte to itself if none is given
 abbrev pub table_given : List (ℕ × Snap) → Option Value → Result (List ℕ) Fault
 table_given pairs None = Ok all_bytes
 table_given pairs (Some v) = table_in pairs v
 
--- nothing is dropped where no bytes are given
+-- the bytes to be dropped, or none if none are given
 abbrev pub dropped_given : List (ℕ × Snap) → Option Value → Result (List ℕ) Fault
 dropped_given pairs None = Ok []
 dropped_given pairs (Some v) = bytes_in pairs v
@@ -74,12 +74,12 @@ tables_of pairs table delete = do
   dropped ← dropped_given pairs delete
   Ok (table, dropped)
 
--- what was answered, with the bytes of vectors as lists
+-- an answer, with the bytes of vectors as lists
 abbrev pub pair_answered : Outcome (Vec ℕ × Vec ℕ) → Outcome (List ℕ × List ℕ)
 pair_answered (outcome.Done pair) = outcome.Done (pair.0.items, pair.1.items)
 pair_answered (outcome.Refused f) = outcome.Refused f
 
--- bytes mapped by what is given
+-- the bytes, mapped by what is given
 abbrev pub translation : List (ℕ × Snap) → Option Value → Option Value → List ℕ → Result (List ℕ) Fault
 translation pairs table delete bytes = do
   tables ← tables_of pairs table delete

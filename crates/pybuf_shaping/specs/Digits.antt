@@ -1,4 +1,4 @@
--- Bytes as hexadecimal digits: in groups with a separator between each two, and read back.
+-- Bytes as hexadecimal digits, in groups with a separator between each two, and read back from digits.
 use Rattle.std.specs.Prelude.{ℕ, zero, suc, ◌+◌, ◌-◌, ◌*◌, ◌/◌, nat_lt, ℤ, pos, negsuc, List, [], ◌∷◌, ◌++◌, length, take, drop, Option, Some, None, Result, Ok, Err, if◌then◌else◌}
 use Rattle.std.specs.List.{flat_map}
 use Rattle.hex.specs.Hex.{encode_lower, hex_digit_value}
@@ -10,7 +10,7 @@ use Rattle.pybuf_letters.specs.Classes.{is_blank}
 
 -- ---- groups
 
--- so many groups of a size, one after another
+-- this many groups of one size, one after another
 abbrev pub groups_of : ℕ → ℕ → List ℕ → List (List ℕ)
 groups_of size zero bytes = []
 groups_of size (suc count) bytes = take size bytes ∷ groups_of size count (drop size bytes)
@@ -19,11 +19,11 @@ groups_of size (suc count) bytes = take size bytes ∷ groups_of size count (dro
 abbrev pub further : ℕ → List ℕ → ℕ
 further size bytes = (length bytes - 1) / size
 
--- counted from the left: the last group has what is left
+-- groups that are counted from the left: the last group has what is left
 abbrev pub groups_from_left : ℕ → List ℕ → List (List ℕ)
 groups_from_left size bytes = take size bytes ∷ groups_of size (further size bytes) (drop size bytes)
 
--- counted from the right: the first group has what is left
+-- the size of the first group if groups are counted from the right: it has what is left
 abbrev pub first_size : ℕ → List ℕ → ℕ
 first_size size bytes = length bytes - further size bytes * size
 
@@ -46,7 +46,7 @@ abbrev pub separator_in : List ℕ → Result ℕ Fault
 separator_in (byte ∷ []) = if nat_lt byte 128 then Ok byte else Err fault.Value
 separator_in _ = Err fault.Value
 
--- where groups are counted: from the right for a positive size, from the left for a negative one
+-- the groups: counted from the right if the size is positive, and from the left if it is negative
 abbrev pub grouped : ℤ → List ℕ → List (List ℕ)
 grouped (pos size) bytes = groups_from_right size bytes
 grouped (negsuc size) bytes = groups_from_left (suc size) bytes
@@ -56,7 +56,7 @@ text_by_groups separator size bytes = do
   byte ← separator_in separator
   fitted (separated byte (grouped size bytes))
 
--- The digits of bytes. Of no bytes, without a separator and in groups of no size, nothing is looked at.
+-- The digits of bytes. If there are no bytes, no separator, or a size of 0, neither a separator nor a size is checked.
 abbrev pub hex_text : Option (List ℕ) → ℤ → List ℕ → Result (List ℕ) Fault
 hex_text separator size [] = Ok []
 hex_text None size bytes = fitted (encode_lower bytes)
@@ -65,16 +65,16 @@ hex_text (Some separator) size bytes = text_by_groups separator size bytes
 
 -- ---- read back
 
--- a number as the value of a digit, where it is one
+-- a number as the value of a digit, if it is one
 abbrev pub value_below_16 : ℕ → Option ℕ
 value_below_16 n = if nat_lt n 16 then Some n else None
 
--- the byte of two digits of either case
+-- the byte of two digits, each in either case
 abbrev pub byte_of_digits : Option ℕ → Option ℕ → Result ℕ Fault
 byte_of_digits (Some high) (Some low) = Ok (high * 16 + low)
 byte_of_digits _ _ = Err fault.Value
 
--- the bytes of pairs of digits; blanks before, between and behind pairs are left out
+-- the bytes of pairs of digits; blanks before, between and behind the pairs are left out
 abbrev pub bytes_of_hex : List ℕ → Result (List ℕ) Fault
 bytes_of_hex [] = Ok []
 bytes_of_hex (c ∷ []) = if is_blank c then Ok [] else Err fault.Value

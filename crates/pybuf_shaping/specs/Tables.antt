@@ -8,15 +8,15 @@ use Rattle.pybuf_value.specs.declared.faults.Fault.TheVariants as fault
 unfoldable pub all_bytes : List ℕ
 all_bytes = range_with_len 0 256
 
--- whether a byte is one of some
+-- whether a byte is one of these bytes
 abbrev pub is_among : List ℕ → ℕ → Bool
 is_among bytes b = list_any (λ other. other == b) bytes
 
--- bytes without those to be dropped, each mapped by its entry of the table
+-- bytes without those that are dropped, each mapped by its entry of the table
 abbrev pub translated : List ℕ → List ℕ → List ℕ → List ℕ
 translated table dropped bytes = map (slice_index table) (filter (λ b. not (is_among dropped b)) bytes)
 
--- the byte that stands at the first place of a byte in others, else the byte itself
+-- the byte at the place where `from` first has this byte, or the byte itself if `from` lacks it
 abbrev pub counterpart : List ℕ → List ℕ → ℕ → ℕ
 counterpart (f ∷ from) (t ∷ to) b = if f == b then t else counterpart from to b
 counterpart _ _ b = b

@@ -17,7 +17,7 @@ fn push_digits(out: &mut Vec<u8>, bytes: &[u8]) -> Made<()>
 {
     let start = out.len();
     out.resize(start + 2 * bytes.len(), 0)?;
-    // the room is twice as long as the bytes, so this is no refusal
+    // the room is twice as long as the bytes, so this is never refused
     let _ = hex::encode_to_slice(bytes, &mut out.as_mut_slice()[start..]);
     Ok(())
 }

@@ -116,7 +116,7 @@ pub fn translate(alloc: Global, bytes: &[u8], table: &[u8], dropped: &[u8]) -> M
     ensures { IfOk result (λ list. list ≡ spec.translated table.now dropped.now bytes.now) }
 {
     if dropped.is_empty() {
-        // a branch of its own, since only a table is looked at where nothing is dropped
+        // This is a branch of its own. If nothing is dropped, only the table is looked at.
         return mapped(alloc, bytes, table);
     }
     mapped_without(alloc, bytes, table, dropped)

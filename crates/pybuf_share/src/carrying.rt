@@ -101,7 +101,8 @@ impl<L: Ledger> SharedExporter<L> {
         match from.call(rt, giver, bytes_asked(alloc, subject)) {
             Ok(()) => self.take_given(rt, alloc, session, command, handle, bytes_given(giver)),
             Err(NoMemory) => {
-                // by a call, since a command that ends with its scope spells out all its variants
+                // The command is dropped by a call. If it ended with its scope, the drop would spell out all its
+                // variants.
                 drop(command);
                 Err(NoMemory)
             }

@@ -69,7 +69,8 @@ fn disagreement(alloc: Global, kept: Option<&Entry>, receipt: &Receipt) -> Made<
     match receipt.entry.copy(alloc) {
         Ok(got) => Ok(FinishFault::Disagree { at, kept, got }),
         Err(NoMemory) => {
-            // by a call, since an entry that ends with its scope spells out all variants of its command
+            // The entry is dropped by a call. If it ended with its scope, the drop would spell out all variants of its
+            // command.
             drop(kept);
             Err(NoMemory)
         }
@@ -101,7 +102,7 @@ fn check_receipts(alloc: Global, entries: &[Entry], receipts: &[Receipt]) -> Res
     ensures err { IfErr result (λ f. spec.Disagrees entries.now receipts.now f) }
 {
     for receipt in receipts {
-        // an `if let` and no `?`, since the proof of the fault is of this arm
+        // This is an `if let` and not a `?`, since the proof about the fault belongs to this arm.
         if let Err(fault) = check_receipt(alloc, entries, receipt) {
             return Err(fault);
         }
@@ -119,7 +120,7 @@ pub(crate) fn check_sessions<L: Ledger>(
     ensures err { IfErr result (λ f. spec.Disagrees entries.now (spec.receipts_of sessions.now) f) }
 {
     for session in sessions {
-        // an `if let` and no `?`, since the proof of the fault is of this arm
+        // This is an `if let` and not a `?`, since the proof about the fault belongs to this arm.
         if let Err(fault) = check_receipts(alloc, entries, session.receipts()) {
             return Err(fault);
         }

@@ -27,7 +27,8 @@ impl Twin for Entry {
                 reply,
             }),
             Err(NoMemory) => {
-                // by a call, since a command that ends with its scope spells out all its variants
+                // The command is dropped by a call. If it ended with its scope, the drop would spell out all its
+                // variants.
                 drop(command);
                 Err(NoMemory)
             }

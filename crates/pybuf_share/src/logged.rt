@@ -27,7 +27,7 @@ pub struct Logged<L: Ledger> {
     state: ExporterState,
     history: Vec<Entry>,
     calls: Book<L>,
-    // of no part, to which the shares of all sessions are added at the end
+    // A share of no part. The shares of all sessions are added to it at the end.
     none: Share<L>,
     alloc: Global,
 }
@@ -51,7 +51,7 @@ fn copied_twice(alloc: Global, command: &LocalCommand) -> Made<(LocalCommand, Lo
     match command.copy(alloc) {
         Ok(own) => Ok((kept, own)),
         Err(NoMemory) => {
-            // by a call, since a command that ends with its scope spells out all its variants
+            // The command is dropped by a call. If it ended with its scope, the drop would spell out all its variants.
             drop(kept);
             Err(NoMemory)
         }
@@ -216,7 +216,8 @@ impl<L: Ledger> Logged<L> {
         match session.prepare(self.alloc, &command) {
             Ok(kept) => session.ask(self, kept, command),
             Err(NoMemory) => {
-                // by a call, since a command that ends with its scope spells out all its variants
+                // The command is dropped by a call. If it ended with its scope, the drop would spell out all its
+                // variants.
                 drop(command);
                 Err(NoMemory)
             }
@@ -285,7 +286,7 @@ impl<L: Ledger> Logged<L> {
         if let Some(fault) = order_fault(sessions) {
             return Err(fault);
         }
-        // a match, since the proof of each clause is of its own arm
+        // This is a match, since the proof of each clause belongs to an arm of its own.
         match check_sessions(self.alloc, self.history.as_slice(), sessions) {
             Ok(()) => Ok(()),
             Err(fault) => Err(fault),

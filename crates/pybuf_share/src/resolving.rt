@@ -74,7 +74,7 @@ pub(crate) fn resolved<L: Ledger>(
 {
     let subject = resolved_subject(command.subject, session);
     let loans = resolved_loans(alloc, &command.loans, session)?;
-    // the verb comes last, so that no arm drops one, which would spell out all its variants
+    // The verb is copied last, so that no arm drops one. Such a drop would spell out all its variants.
     let verb = command.verb.copy(alloc)?;
     Ok(LocalCommand {
         subject,

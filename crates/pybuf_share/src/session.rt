@@ -190,7 +190,7 @@ impl<L: Ledger> Session<L> {
         ensures number { self.new.number ≡ self.old.number }
         ensures parts { self.new.parts ≡ self.old.parts }
     {
-        // there is room already where it was prepared
+        // if the session was prepared, there is room already
         self.receipts.reserve(1)?;
         self.views.reserve(1)?;
         self.iterators.reserve(1)?;

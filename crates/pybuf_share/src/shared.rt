@@ -104,7 +104,8 @@ impl<L: Ledger> SharedExporter<L> {
         match session.prepare(self.alloc, &command) {
             Ok(kept) => self.call_prepared(rt, session, kept, command, gate),
             Err(NoMemory) => {
-                // by a call, since a command that ends with its scope spells out all its variants
+                // The command is dropped by a call. If it ended with its scope, the drop would spell out all its
+                // variants.
                 drop(command);
                 Err(NoMemory)
             }
@@ -150,7 +151,7 @@ impl<L: Ledger> SharedExporter<L> {
             alloc: _,
             locked,
         } = self;
-        // a match, since the proof of each clause is of its own arm
+        // This is a match, since the proof of each clause belongs to an arm of its own.
         match locked.into_inner().join(kind, opening, sessions) {
             Ok(joined) => Ok(joined),
             Err(fault) => Err(fault),

@@ -6,26 +6,26 @@ pub record FrontContent : Type 0 where
   pub items : List ℕ
   pub room : ℕ
 
--- there is no room, or less than there are bytes
+-- there is no free room, or less of it than there are bytes
 abbrev pub IsSpare : FrontContent → Type 0
 IsSpare f = (f.room ≡ 0) ⊎ (f.room < length f.items)
 
--- how many bytes are moved to the start before others are added: all of them where there is as much room as
--- bytes or more, and none where there is less
+-- How many bytes are moved to the start before others are added. All are moved if there is as much free room as there
+-- are bytes, or more. None is moved if there is less.
 abbrev pub moved_down : FrontContent → ℕ
 moved_down f = if nat_lt f.room (length f.items) then 0 else length f.items
 
--- the room that is left once others were added: none where the bytes were moved to the start
+-- the free room that is left after others were added; none if the bytes were moved to the start
 abbrev pub room_kept : FrontContent → ℕ
 room_kept f = if nat_lt f.room (length f.items) then f.room else 0
 
--- what it costs to add bytes: each byte that is moved uses up a byte of room, each is moved at most once, and
--- afterwards there is no room, or less than there are bytes
+-- What it costs to add bytes. Each byte that is moved uses up a byte of free room, and each is moved at most once.
+-- Afterwards there is no free room, or less of it than there are bytes.
 pub record IsPaidByRoom (f new : FrontContent) (moved : ℕ) : Type 0 where
   pub paid : moved + new.room ≤ f.room
   pub few : moved ≤ length f.items
   pub spare : IsSpare new
 
--- so it is of bytes that are added at the end
+-- adding bytes at the end costs this
 abbrev pub AddingIsPaidByRoom : FrontContent → List ℕ → Type 0
 AddingIsPaidByRoom f added = IsPaidByRoom f (record { items = f.items ++ added; room = room_kept f }) (moved_down f)

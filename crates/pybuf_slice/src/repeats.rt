@@ -31,7 +31,7 @@ fn copies_of<T: Twin>(alloc: Global, items: &[T], times: usize) -> Made<Vec<T>>
     ensures { IfOk result (λ list. AllZip T.same (repeated_list times items.now) list.items) }
 {
     let mut list = Vec::with_capacity(alloc, items.len() * times)?;
-    // No items are done at once, however often they are asked for.
+    // If there are no items, nothing is left to do, however often they are repeated.
     if items.is_empty() {
         return Ok(list);
     }

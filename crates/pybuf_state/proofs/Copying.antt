@@ -1,4 +1,4 @@
--- The vector that is made of the copy of a view.
+-- The vector that is made from the copy of a view.
 use Rattle.std.proofs.Common.{◌≡◌, ℕ, List, Bool, ap, sym, ◌∙◌, refl, subst}
 use Rattle.std.specs.Prelude.{Ok, slice_get}
 use Rattle.std.proofs.lemmas.List.Elements.{All-nil}
@@ -18,7 +18,7 @@ use Rattle.pybuf_state.specs.Sound.{IsSoundView, IsSoundExporter}
 use Rattle.pybuf_state.specs.Laws.{IsSoundLayout, LiveLayoutsAreSound, NewViewsAreSound, CopiesAreFaithful}
 use Rattle.pybuf_state.proofs.Finding.{live_view}
 
--- an unreleased view may only be read where its layout says so
+-- an unreleased view is read-only exactly if its layout says so
 readonly_of_live : (e : Exporter) (k : ℕ) (layout : Layout) → live_layout e k ≡ Ok layout → is_readonly_view (slice_get e.views k) ≡ layout.readonly
 readonly_of_live e k layout found =
     let live = live_view e k layout found in ap is_readonly_view live.1.given ∙ ap (λ (l : Layout). l.readonly) live.1.shows
@@ -52,7 +52,7 @@ faithful_view live adding copies e k layout sound found =
     let copied = copies e.bytes layout sound_layout.formed.counted sound_layout.inside in
     (made_sound adding e layout sound_layout copied, (layout, row_major_of layout, found, refl, refl, packed e layout copied))
 
--- the copy of a bytearray
+-- what is made from the copy of a bytearray is sound
 byte_array_sound : (bytes : List ℕ) → IsSoundExporter (new_exporter exporter_kind.ByteArray bytes)
 byte_array_sound bytes = record { views = All-nil (IsSoundView exporter_kind.ByteArray bytes) }
 

@@ -1,4 +1,4 @@
--- How many items a shape has, one entry more.
+-- How many items a shape has once one more entry is counted.
 use Rattle.std.proofs.Common.{◌≡◌, ℕ, zero, suc, ◌+◌, ◌*◌, ◌<◌, ◌≤◌, List, [], ◌∷◌, ◌++◌, length, take, get_or, ap, sym, ◌∙◌, arith, min, ◌⊎◌, inl, inr}
 use Rattle.std.proofs.Math.Nat.{mul_assoc, mul-zero, min-eq_left, min-eq_right, le_refl, le_trans, le-mul_of_pos_right}
 use Rattle.std.proofs.lemmas.Bool.{cases_lt}
@@ -21,7 +21,7 @@ cut_case : (a n most : ℕ) → (a < most) ⊎ (most ≤ a) → min (min a most 
 cut_case a n most (inl under) = ap (λ k. min (k * n) most) (min-eq_left (omega (arith, under)))
 cut_case a n most (inr over) = ap (λ k. min (k * n) most) (min-eq_right over) ∙ cut_past a n most over
 
--- a count that was cut off before is cut off again
+-- a count that was cut off before can be cut off again without change
 pub cut_again : (a n most : ℕ) → min (min a most * n) most ≡ min (a * n) most
 cut_again a n most = cut_case a n most (cases_lt a most)
 

@@ -10,7 +10,7 @@ use Rattle.pybuf_value.specs.Refusing.{◌>>=◌, unless}
 use Rattle.pybuf_desc.specs.Layouts.{Layout}
 use Rattle.pybuf_state.specs.Exporter.{Exporter, View, view_at, live_layout}
 
--- what holds of each holds of the one that is found
+-- if each element of a list has a property, so has the element that is found
 pub All-slice_get : {X : Type 0} (P : X → Type 0) (xs : List X) (k : ℕ) (x : X) → All P xs → slice_get xs k ≡ Some x → P x
 All-slice_get P xs k x all at = subst P (get_or_from_slice_get xs k x x at) (all k x (slice_get_within xs k x at))
 
@@ -28,7 +28,7 @@ none_of (Some w) f refused = absurd (cc)
 pub view_at_none : (e : Exporter) (k : ℕ) (f : Fault) → view_at e k ≡ Err f → slice_get e.views k ≡ None
 view_at_none e k f refused = none_of (slice_get e.views k) f refused
 
--- the view that a live layout is of
+-- the view whose layout is a live layout
 pub record IsLiveView (e : Exporter) (k : ℕ) (layout : Layout) (v : View) : Type 0 where
   pub given : slice_get e.views k ≡ Some v
   pub unreleased : v.released ≡ false
@@ -57,7 +57,7 @@ slice_get-push [] y x k found = absurd (cc)
 slice_get-push (z ∷ xs) y x zero found = found
 slice_get-push (z ∷ xs) y x (suc k) found = slice_get-push xs y x k found
 
--- what stands at a number after a write: the new one there, and what stood there at another
+-- what stands at a number after a write: the new one at that number, and the old one at any other
 pub slice_get-set : {X : Type 0} (P : X → X → Type 0) (xs : List X) (k j : ℕ) (x y z : X) → ((w : X) → P w w) → P x y → slice_get xs k ≡ Some x → slice_get xs j ≡ Some z
     → (w : X) × (slice_get (set xs k y) j ≡ Some w) × P z w
 slice_get-set P [] k j x y z same changed at found = absurd (cc)

@@ -1,4 +1,4 @@
--- What is lent of an exporter and of its views fits.
+-- What an exporter and its views are lent as fits.
 use Rattle.std.proofs.Common.{◌≡◌, ℕ, ◌*◌, List, [], length, Bool, true, false, ap, ap₂, sym, ◌∙◌, refl, subst}
 use Rattle.std.specs.Prelude.{◌&&◌, ◌||◌, ◌==◌, Option, Some, None, codes, if◌then◌else◌, IfSome, slice_get}
 use Rattle.std.specs.Option.{option_map}
@@ -51,13 +51,13 @@ iterator_fits : (o : Option Iterator) → IfSome (option_map (λ it. iterator_sn
 iterator_fits None = tt
 iterator_fits (Some it) = bytes_are_sized
 
--- whatever is lent of a sound exporter fits
+-- whatever a sound exporter lends fits
 pub subject_fits : ContentsAreWhole → (e : Exporter) (s : Subject) → IsSoundExporter e → IfSome (snap_of_subject e s) (λ snap. fits_snap snap ≡ true)
 subject_fits whole e subject.Own sound = exporter_fits e
 subject_fits whole e (subject.View k) sound = found_fits whole e (slice_get e.views k) k refl sound
 subject_fits whole e (subject.Iter k) sound = iterator_fits (slice_get e.iterators k)
 
--- a result that may be no snap has what its definition has
+-- a result that may be no snap fits if its definition does
 pub fits_so : {E : Type 0} (r : Result (Option Snap) E) (o : Option Snap) → IfOk r (λ snap. snap ≡ o) → IfSome o (λ snap. fits_snap snap ≡ true) → IfOk r (λ snap. IfSome snap (λ s. fits_snap s ≡ true))
 fits_so (Ok snap) o is fits = subst (λ (x : Option Snap). IfSome x (λ s. fits_snap s ≡ true)) (sym is) fits
 fits_so (Err e) o is fits = tt

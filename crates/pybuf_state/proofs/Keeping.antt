@@ -1,4 +1,4 @@
--- What each way of changing an exporter keeps of it.
+-- What each way of changing an exporter keeps.
 use Rattle.std.proofs.Common.{◌≡◌, ℕ, suc, ◌+◌, ◌≤◌, ◌<◌, List, [], ◌∷◌, length, Bool, true, false, true≢false, sym, ◌∙◌, refl, subst, arith, inl, inr}
 use Rattle.std.specs.Prelude.{Some, codes, cond, slice_get, count_by, not}
 use Rattle.std.specs.List.{All, range_with_len}
@@ -122,7 +122,7 @@ writing e bytes sound writable same_length = record {
   items_apart = same_views e (record e { bytes = bytes }) refl;
 }
 
--- where no view is unreleased, none is held
+-- if no view is unreleased, none is held
 released_keeps : (k : ExporterKind) (old new : List ℕ) (v : View) → v.released ≡ true → IsSoundView k old v → IsSoundView k new v
 released_keeps k old new v released view = record {
   formed = view.formed;

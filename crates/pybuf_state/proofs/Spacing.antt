@@ -1,4 +1,4 @@
--- Exporters of whose views no two items share a byte, and how they stay so.
+-- Exporters in whose views no two items share a byte, and how they stay so.
 use Rattle.std.proofs.Common.{Bool, true, false, [], length, sym, subst}
 use Rattle.std.specs.List.{All}
 use Rattle.std.proofs.lemmas.List.Elements.{All-nil, All-push, All-set}

@@ -1,4 +1,4 @@
--- What the code of an effect owes to its definition.
+-- What the code of an effect must do, by the definition of the effect.
 use Rattle.std.specs.Prelude.{◌≡◌, Result, Ok, Err}
 use Rattle.pybuf_value.specs.declared.faults.Fault.{Fault}
 use Rattle.pybuf_value.specs.declared.halt.Halt.{Halt}
@@ -12,19 +12,19 @@ use Rattle.pybuf_state.specs.Sound.{IsSoundExporter}
 abbrev pub exporter_of : Parts → Exporter
 exporter_of p = record { kind = p.kind; bytes = p.bytes.items; views = p.views.items; iterators = p.iterators.items }
 
--- what holds of kept parts: the count is that of the unreleased views, and the exporter is sound
+-- what holds of the parts: their count is that of the unreleased views, and the exporter that they keep is sound
 pub record IsWhole (p : Parts) : Type 0 where
   pub counted : p.exports ≡ exports_of (exporter_of p)
   pub sound : IsSoundExporter (exporter_of p)
 
--- The answer is the effect's: its reply with its exporter, or its fault and the exporter as before.
--- Where memory runs out, the exporter is as before.
+-- The answer is what the effect says: its reply and its exporter, or its fault and the exporter as it was before. If
+-- memory runs out, the exporter is as it was before.
 abbrev pub Answers : Result (Exporter × LocalReply) Fault → Exporter → Result LocalReply Halt → Exporter → Type 0
 Answers effect old (Ok r) new = effect ≡ Ok (new, r)
 Answers effect old (Err (halt.Refused f)) new = (effect ≡ Err f) × (new ≡ old)
 Answers effect old (Err halt.NoMemory) new = new ≡ old
 
--- the same of an effect that only reads
+-- the same for an effect that only reads
 abbrev pub Reads : Result (Exporter × LocalReply) Fault → Exporter → Result LocalReply Halt → Type 0
 Reads effect e (Ok r) = effect ≡ Ok (e, r)
 Reads effect e (Err (halt.Refused f)) = effect ≡ Err f

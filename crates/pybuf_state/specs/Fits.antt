@@ -1,4 +1,4 @@
--- Which loans fit.
+-- Which loans fit. A loan says what a handle stands for. It fits if it holds no snap, or a snap that fits.
 use Rattle.std.specs.Prelude.{◌≡◌, ℕ, Bool, true, List, IfSome}
 use Rattle.std.specs.List.{list_all}
 use Rattle.pybuf_command.specs.declared.loans.Loan.{Loan}
@@ -16,10 +16,10 @@ fits _ = true
 abbrev pub all_fit : List (ℕ × Loan) → Bool
 all_fit loans = list_all (λ pair. fits pair.1) loans
 
--- the loans fit
+-- all of the loans fit
 abbrev pub LoansFit : List (ℕ × Loan) → Type 0
 LoansFit loans = all_fit loans ≡ true
 
--- what a sound exporter is lent as fits, and so does what is lent of its views and iterators
+-- the snap that a sound exporter is lent as fits, and so do those of its views and iterators
 abbrev pub SubjectsFit : Type 0
 SubjectsFit = (e : Exporter) (s : Subject) → IsSoundExporter e → IfSome (snap_of_subject e s) (λ snap. fits_snap snap ≡ true)

@@ -1,4 +1,4 @@
--- Exporters that are made of another, with a copy of its bytes.
+-- Exporters that are made from another one, with a copy of its bytes.
 use Rattle.std.specs.Prelude.{◌≡◌, ℕ, Bool, true, List, length, Option, Some, None, Ok, slice_get}
 use Rattle.pybuf_value.specs.declared.snaps.Snap.{Snap}
 use Rattle.pybuf_value.specs.declared.snaps.SnapKind.{SnapKind}
@@ -16,7 +16,7 @@ use Rattle.pybuf_memoryview.specs.Snaps.{snap_of_copy}
 use Rattle.pybuf_state.specs.Exporter.{Exporter, View, new_exporter, live_layout, with_view}
 use Rattle.pybuf_state.specs.Snaps.{snap_of_exporter}
 
--- whether a view that was given may only be read
+-- whether a view may only be read; this is true if the view was never made
 abbrev pub is_readonly_view : Option View → Bool
 is_readonly_view (Some v) = v.layout.readonly
 is_readonly_view None = true
@@ -27,13 +27,14 @@ is_readonly_subject e subject.Own = holds_readonly e.kind
 is_readonly_subject e (subject.View k) = is_readonly_view (slice_get e.views k)
 is_readonly_subject e (subject.Iter k) = true
 
--- The vector that is made of the copy of a view: its content, and one view of all of it, with items of
--- the same format in the same shape, one after the other.
+-- The vector that is made from the copy of a view. It has the content of the copy, and one view of all of it. The items
+-- of this view have the same format and shape, and lie one after the other.
 abbrev pub vector_of : Bool → Snap → Exporter
 vector_of readonly snap =
     (with_view (new_exporter (exporter_kind.Vector readonly) snap.content) (row_major_layout snap.format snap.itemsize snap.shape readonly)).0
 
--- What is made of a copy: of a bytearray's another bytearray with no view, and of a view's that vector.
+-- What is made from a copy. From a bytearray's copy it is another bytearray without views, and from a view's copy it is
+-- that vector.
 abbrev pub made_by_kind : SnapKind → Bool → Snap → Exporter
 made_by_kind kind.ByteArray readonly snap = new_exporter exporter_kind.ByteArray snap.content
 made_by_kind _ readonly snap = vector_of readonly snap
@@ -41,14 +42,14 @@ made_by_kind _ readonly snap = vector_of readonly snap
 abbrev pub made_of : Bool → Snap → Exporter
 made_of readonly snap = made_by_kind snap.kind readonly snap
 
--- the snap is the copy of a bytearray, or of an unreleased view
+-- the snap is a copy of a bytearray, or of an unreleased view
 abbrev pub IsCopyOf : Exporter → Subject → Snap → Type 0
 IsCopyOf e subject.Own snap = (e.kind ≡ exporter_kind.ByteArray) × (snap ≡ snap_of_exporter e)
 IsCopyOf e (subject.View k) snap = (layout : Layout) × (live_layout e k ≡ Ok layout) × (snap ≡ snap_of_copy e.bytes layout)
 IsCopyOf e _ snap = ⊥
 
--- The bytes of the one are those of the other, with items of the same format in the same shape; and in
--- the other they lie one after the other.
+-- The copy has the bytes of the view, with items of the same format in the same shape. In the copy they lie one after
+-- the other.
 pub record IsPackedCopy (bytes : List ℕ) (view : Layout) (copied : List ℕ) (copy : Layout) : Type 0 where
   pub content : content_of_layout copied copy ≡ content_of_layout bytes view
   pub whole : copied ≡ content_of_layout bytes view
@@ -59,8 +60,8 @@ pub record IsPackedCopy (bytes : List ℕ) (view : Layout) (copied : List ℕ) (
   pub strides : HasRowMajorStrides copy
   pub contiguous : is_contiguous_layout copy ≡ true
 
--- a bytearray has the bytes of another and no view; or the first view of an exporter is such a copy of an
--- unreleased view of another, and there is no other
+-- Either a bytearray has the bytes of another, and no view. Or an exporter has one view, and this is a packed copy of
+-- an unreleased view of another exporter.
 abbrev pub HoldsCopy : Exporter → Subject → Exporter → Type 0
 HoldsCopy e subject.Own made = made ≡ new_exporter exporter_kind.ByteArray e.bytes
 HoldsCopy e (subject.View k) made =

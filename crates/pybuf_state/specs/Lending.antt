@@ -10,8 +10,8 @@ use Rattle.pybuf_state.specs.Store.{overwritten_from}
 use Rattle.pybuf_state.specs.declared.parts.Parts.{Parts}
 use Rattle.pybuf_state.specs.contracts.parts.Parts.{the_row}
 
--- The items of a view lie one after the other from one place up to another, and inside; so those are its
--- bytes.
+-- The items of a view lie one after the other, from one place up to another. So the bytes between these places are the
+-- bytes of the view.
 pub record IsRunOf (bytes : List ℕ) (layout : Layout) (start end : ℕ) : Type 0 where
   pub contiguous : is_contiguous_layout layout ≡ true
   pub first : start ≡ slice_index layout.starts 0
@@ -19,10 +19,10 @@ pub record IsRunOf (bytes : List ℕ) (layout : Layout) (start end : ℕ) : Type
   pub inside : end ≤ length bytes
   pub content : slice_range bytes start end ≡ content_of_layout bytes layout
 
--- the parts with bytes written from a place on
+-- the parts after bytes were written from a place on
 abbrev pub with_run : Parts → ℕ → List ℕ → Parts
 with_run p place bytes = record p { bytes = overwritten_from p.bytes place bytes }
 
--- the parts end with the last bytes behind the loan in the place of those of the view
+-- after a loan, the bytes that the loan ends with stand in the parts in place of the bytes of the view
 abbrev pub LendsRun : MutBor Parts → ℕ → MutBor (List ℕ) → Fml
 LendsRun s k r = Lends the_row (Array u8 0) s r (with_run s.now (slice_index (layout_of (exporter_of s.now) k).starts 0))

@@ -1,4 +1,4 @@
--- Views that were given and are unreleased.
+-- Views that were made and are unreleased.
 use Rattle.std.specs.Prelude.{ℕ, Bool, true, false, not, ◌&&◌, Option, Some, None, slice_get}
 use Rattle.pybuf_desc.specs.Layouts.{Layout, bytes_layout}
 use Rattle.pybuf_desc.specs.Contiguous.{is_contiguous_layout}
@@ -8,7 +8,7 @@ abbrev pub is_unreleased : Option View → Bool
 is_unreleased (Some v) = not v.released
 is_unreleased None = false
 
--- whether the view of a number was given and is unreleased
+-- whether the view with this number was made and is unreleased
 abbrev pub is_live : Exporter → ℕ → Bool
 is_live e k = is_unreleased (slice_get e.views k)
 
@@ -16,7 +16,7 @@ abbrev pub layout_in : Option View → Layout
 layout_in (Some v) = v.layout
 layout_in None = bytes_layout 0 true
 
--- the layout of the view of a number; that of no byte where none was given
+-- the layout of the view with this number; the layout of no bytes if it was not made
 abbrev pub layout_of : Exporter → ℕ → Layout
 layout_of e k = layout_in (slice_get e.views k)
 

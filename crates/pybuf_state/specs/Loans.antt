@@ -1,4 +1,4 @@
--- Which handles an exporter knows by its loans, and what is lent to the effect of a command.
+-- The handles that an exporter knows by its loans, and what is lent to the effect of a command.
 use Rattle.std.specs.Prelude.{ℕ, Bool, true, false, List, [], ◌∷◌, length, map, Option, Some, None, nat_lt}
 use Rattle.std.specs.List.{flat_map, list_all}
 use Rattle.pybuf_value.specs.declared.snaps.Snap.{Snap}
@@ -12,7 +12,7 @@ use Rattle.pybuf_state.specs.Snaps.{snap_of_subject}
 
 -- ---- which handles are known
 
--- what a loan names is there
+-- whether the exporter has what a loan names
 abbrev pub is_named : Exporter → Option Loan → Bool
 is_named e (Some loan.Own) = true
 is_named e (Some (loan.View k)) = nat_lt k (length e.views)
@@ -21,32 +21,32 @@ is_named e (Some (loan.Other snap)) = true
 is_named e (Some loan.Missing) = false
 is_named e None = false
 
--- the same of each of these handles, by what each is lent as
+-- the same for each of these handles, by what each is lent as
 abbrev pub are_named : Exporter → (ℕ → Option Loan) → List ℕ → Bool
 are_named e named handles = list_all (λ h. is_named e (named h)) handles
 
--- a handle for which nothing is lent is none that was given
+-- a handle that nothing is lent for was never given
 abbrev pub given_loan : Option Loan → Option Loan
 given_loan (Some loan.Missing) = None
 given_loan l = l
 
--- what each handle is lent as: the first pair of it counts
+-- what each handle is lent as; the first pair with the handle counts
 abbrev pub names_of : List (ℕ × Loan) → ℕ → Option Loan
 names_of loans h = given_loan (loan_of loans h)
 
--- the same of each of these handles by loans
+-- the same for each of these handles, by the loans
 abbrev pub are_known : Exporter → List (ℕ × Loan) → List ℕ → Bool
 are_known e loans handles = are_named e (names_of loans) handles
 
 -- ---- what is lent
 
--- what another exporter lends of a subject, as it stands
+-- what another exporter lends for a subject, as the subject stands
 abbrev pub loan_of_snap : Option Snap → Loan
 loan_of_snap (Some snap) = loan.Other snap
 loan_of_snap None = loan.Missing
 
--- What is lent for a handle: what it names as it stands before the command, and which subject of the
--- exporter itself that is, none where it is another exporter's.
+-- What is lent for a handle: what it names, as that stands before the command, and which subject of the exporter it is.
+-- There is no subject if it belongs to another exporter.
 pub record Lent : Type 0 where
   pub handle : ℕ
   pub subject : Option Subject
@@ -63,7 +63,7 @@ subject_in (Some (loan.View k)) = Some (subject.View k)
 subject_in (Some (loan.Iter k)) = Some (subject.Iter k)
 subject_in _ = None
 
--- what a loan names, as it stands; nothing where its bytes aren't read
+-- what a loan names, as it stands; nothing if its bytes aren't read
 abbrev pub snap_in : Exporter → Option Loan → Option Snap
 snap_in e (Some loan.Own) = snap_of_subject e subject.Own
 snap_in e (Some (loan.View k)) = snap_of_subject e (subject.View k)
@@ -75,10 +75,10 @@ snap_in e _ = None
 abbrev pub lents_by : Exporter → (ℕ → Option Loan) → List ℕ → List Lent
 lents_by e named handles = flat_map (λ h. lent_as h (subject_in (named h)) (snap_in e (named h))) handles
 
--- the same by loans
+-- the same, by the loans
 abbrev pub lent_for_each : Exporter → List (ℕ × Loan) → List ℕ → List Lent
 lent_for_each e loans handles = lents_by e (names_of loans) handles
 
--- the handles with what they name
+-- the handles, each with what it names
 abbrev pub snaps_of : List Lent → List (ℕ × Snap)
 snaps_of lents = map (λ l. (l.handle, l.snap)) lents

@@ -1,5 +1,5 @@
--- What a handle names: the exporter that a command works on or something of it, something of another exporter,
--- or nothing.
+-- What a handle names. It is the exporter that a command works on or something of it, something of another exporter, or
+-- nothing.
 use Rattle.std.specs.Prelude.{◌≡◌, true, Option, Some, None}
 use Rattle.std.specs.Option.{option_map}
 use Rattle.pybuf_value.specs.declared.snaps.Snap.{Snap}
@@ -15,7 +15,7 @@ use Rattle.pybuf_state.specs.declared.names.Meaning.TheVariants as meaning
 use Rattle.pybuf_state.specs.Answers.{exporter_of, IsWhole}
 use Rattle.pybuf_state.specs.Snaps.{snap_of_subject}
 
--- what an exporter calls a subject of its own
+-- the loan by which an exporter names a subject of its own
 abbrev pub loan_of_own : Subject → Loan
 loan_of_own subject.Own = loan.Own
 loan_of_own (subject.View k) = loan.View k
@@ -29,7 +29,7 @@ snap_of_other (other.Lies lender s) = snap_of_subject (exporter_of lender.now) s
 abbrev pub meant_other : Other → Option Loan
 meant_other o = option_map loan.Other (snap_of_other o)
 
--- what a handle is lent as that means this
+-- what a handle is lent as, if this is what it means
 abbrev pub meant : Meaning → Option Loan
 meant (meaning.Own s) = Some (loan_of_own s)
 meant (meaning.Other o) = meant_other o

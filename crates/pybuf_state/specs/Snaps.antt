@@ -1,4 +1,4 @@
--- What an exporter and its views are lent as.
+-- The snaps that an exporter and its views are lent as.
 use Rattle.std.specs.Prelude.{ℕ, List, [], ◌∷◌, length, Option, Some, true, false, slice_get, codes}
 use Rattle.std.specs.Option.{option_map}
 use Rattle.pybuf_value.specs.declared.snaps.Snap.{Snap}
@@ -16,7 +16,7 @@ snap_kind_of exporter_kind.Bytes = kind.Bytes
 snap_kind_of exporter_kind.ByteArray = kind.ByteArray
 snap_kind_of (exporter_kind.Vector readonly) = kind.Vector
 
--- an exporter, which counts as its whole view
+-- the snap of an exporter, whose items are all its bytes
 abbrev pub snap_of_exporter : Exporter → Snap
 snap_of_exporter e = record {
   kind = snap_kind_of e.kind;
@@ -31,7 +31,7 @@ snap_of_exporter e = record {
 abbrev pub snap_of_view : List ℕ → View → Snap
 snap_of_view bytes v = snap_of_layout bytes v.layout v.released
 
--- an iterator, whose bytes no command reads
+-- the snap of an iterator, whose bytes no command reads
 abbrev pub iterator_snap : Snap
 iterator_snap = record {
   kind = kind.Iterator;
@@ -43,8 +43,7 @@ iterator_snap = record {
   released = false;
 }
 
--- what a handle of an exporter, of a view of it or of an iterator over one names; none where it was never
--- given
+-- what a handle of an exporter, of a view or of an iterator names; nothing if it was never given
 abbrev pub snap_of_subject : Exporter → Subject → Option Snap
 snap_of_subject e subject.Own = Some (snap_of_exporter e)
 snap_of_subject e (subject.View k) = option_map (snap_of_view e.bytes) (slice_get e.views k)

@@ -1,4 +1,4 @@
--- Exporters of whose views no two items share a byte.
+-- Exporters in whose views no two items share a byte.
 use Rattle.std.specs.List.{All}
 use Rattle.pybuf_desc.specs.Apart.{HasItemsApart}
 use Rattle.pybuf_state.specs.Exporter.{Exporter, View}

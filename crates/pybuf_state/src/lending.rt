@@ -24,7 +24,8 @@ impl Parts {
         if !layout.is_contiguous() {
             return None;
         }
-        // Only the prover asks for the length: its bound is one of where the items end, since they lie inside.
+        // Only the prover asks for the length. The items lie inside, so the bound of the length also bounds the place
+        // where they end.
         let _room = self.bytes.len();
         let start = first_place(layout);
         Some((start, start + layout.nbytes()))

@@ -59,8 +59,8 @@ pub fn append_items(
     ensures succeeds { vec_len out.old + size * count ≤ vec_capacity out.old → IsOk result }
     ensures err { OnErr result (out.new.items ≡ out.old.items) }
 {
-    // Room for several items is filled with zeros before they are copied there, so one would be written twice. One
-    // without bytes may start past the end.
+    // Room for several items is filled with zeros before they are copied there, so a single item would be written
+    // twice. An item without bytes isn't copied here, since it may start past the end.
     if count == 1 && size > 0 {
         return append_one(out, source, from.start, size);
     }

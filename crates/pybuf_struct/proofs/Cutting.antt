@@ -17,12 +17,12 @@ digit_test c h = let r = digit_from_value c h in grind (arith, tests, r)
 abbrev pub with_item : CountedCode → List CountedCode → Option (List CountedCode)
 with_item item others = Some (item ∷ others)
 
--- digits and then a letter are the first part
+-- digits and a letter behind them are the first part
 parts-cut : (digits : List ℕ) (letter : ℕ) (rest : List ℕ) → AllDigits 10 digits → is_ascii_digit letter ≡ false → parts_of (digits ++ letter ∷ rest) ≡ (digits ++ letter ∷ []) ∷ parts_of rest
 parts-cut [] letter rest are other = rw other refl
 parts-cut (d ∷ digits) letter rest are other = rw (digit_test d are.0, parts-cut digits letter rest are.1 other) refl
 
--- digits alone are one part
+-- digits that no letter follows are one part
 parts-digits : (d : ℕ) (digits : List ℕ) → AllDigits 10 (d ∷ digits) → parts_of (d ∷ digits) ≡ (d ∷ digits) ∷ []
 parts-digits d [] are = rw (digit_test d are.0) refl
 parts-digits d (e ∷ digits) are = rw (digit_test d are.0, parts-digits e digits are.1) refl
@@ -56,7 +56,7 @@ pub codes-none : (o : Endianness) → codes_in o [] ≡ Some []
 unfolding codes_in
 codes-none o = refl
 
--- digits without a letter
+-- digits that no letter follows spell no code
 pub codes-digits : (o : Endianness) (d : ℕ) (digits : List ℕ) → AllDigits 10 (d ∷ digits) → codes_in o (d ∷ digits) ≡ None
 unfolding codes_in
 codes-digits o d digits are =

@@ -8,7 +8,7 @@ use Rattle.pybuf_struct.specs.declared.table.FormatType.TheVariants as code
 use Rattle.pybuf_struct.specs.Table.{size_of}
 use Rattle.pybuf_struct.specs.Formats.{Code, span, extent, offset_after, fields_in_row, fields_of_code, fields_from, field_count, field_count_of}
 
--- a unit of a code takes a byte or more
+-- a unit of a code takes at least one byte
 pub one-le-size : (c : FormatType) (o : Endianness) → 1 ≤ size_of o c
 one-le-size code.Long order.Native = omega arith
 one-le-size code.Long _ = omega arith
@@ -51,7 +51,7 @@ field_count_one code.Str = omega arith
 field_count_one code.Pascal = omega arith
 field_count_one _ = omega arith
 
--- a code has at most a field more than it has bytes, and none more where its count is 1
+-- a code has at most one field more than it has bytes, and if its count is 1, it has no more fields than bytes
 pub field_count-le-span : (o : Endianness) (c : Code) → field_count c ≤ span o c + 1
 field_count-le-span o c = omega (arith, field_count_most c.code c.repeat, le-span o c)
 

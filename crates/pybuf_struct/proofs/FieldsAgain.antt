@@ -1,4 +1,4 @@
--- A field's value read from its own bytes, and the bytes of a value that was read.
+-- The value of a field is read from the field's own bytes, and a value that was read has these bytes.
 use Rattle.std.proofs.Common.{◌≡◌, ℕ, zero, suc, ◌-◌, min, Bool, true, false, cond, eqb, List, [], ◌∷◌, length, get_or, take, replicate, ℤ, Result, Ok, Err, refl, sym, ap, ◌∙◌, arith}
 use Rattle.std.specs.Prelude.{IsTrue, not}
 use Rattle.std.specs.Int.{bytes_low_first, bytes_high_first}
@@ -30,7 +30,7 @@ okay x = Ok x
 ok_is : (x y : List ℕ) → okay x ≡ okay y → x ≡ y
 ok_is x y e = cc
 
--- what a field gives back of a value that it took, and that its bytes fill it
+-- what a field gives back of a value that it took; the bytes of the value fill the field
 abbrev pub GivesBack : Scalar → Scalar → List ℕ → ℕ → Type 0
 GivesBack read normal bytes len = (read ≡ normal) × (length bytes ≡ len)
 
@@ -103,7 +103,7 @@ string_gives (Ok content) len bytes is =
     let bytes_is : fitted_to len content ≡ bytes = ok_is (fitted_to len content) bytes is in
     rw (← bytes_is) (refl, length-fitted_to len content)
 
--- the bytes that a Pascal string's length byte takes of its field
+-- the bytes of a Pascal string that its length byte counts, cut to the field
 pascal_cut : (room : ℕ) (content : List ℕ) → take (min (length content) (min room 255)) (fitted_to room content) ≡ take (min room 255) content
 pascal_cut room content =
     take-append-le (min (length content) (min room 255)) (take room content) (replicate (room - length content) 0) (omega (arith, length-take room content))

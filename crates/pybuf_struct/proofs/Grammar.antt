@@ -1,4 +1,4 @@
--- One byte of a format's text after another: what is left to read decides the same format.
+-- One byte of a format's text is read after another. What is left to read always decides the same format.
 use Rattle.std.proofs.Common.{◌≡◌, ℕ, ◌+◌, ◌-◌, ◌*◌, ◌^◌, ◌<◌, ◌≤◌, true, false, cond, List, [], ◌∷◌, ◌++◌, length, get_or, drop, Option, Some, None, refl, sym, ap, append_assoc, add-one, arith}
 use Rattle.std.specs.Prelude.{unwrap_or}
 use Rattle.std.specs.Char.{is_ascii_digit}
@@ -12,7 +12,7 @@ use Rattle.pybuf_struct.proofs.Extents.{le-span}
 use Rattle.pybuf_struct.proofs.Cutting.{with_item}
 use Rattle.pybuf_struct.proofs.Reading.{codes_after_count, codes_are_read}
 
--- the format of the codes so far and of those that are left
+-- the format of the codes so far and of the codes that are left
 abbrev pub format_of_rest : Endianness → List Code → ℕ → Option (List CountedCode) → Option Format
 format_of_rest o front offset items = items >>= λ rest. layout_from o offset rest >>= λ l. Some (record { order = o; codes = front ++ l.0; size = l.1 })
 
@@ -35,7 +35,7 @@ pub counted_refused : (o : Endianness) (text : List ℕ) (count : Option ℕ) (i
 unfolding codes_after_count
 counted_refused o text count i lt other e = rw (drop-cons text i 0, other, e) refl
 
--- a code that fits: the format goes on after it
+-- if a code fits, the format goes on after it
 abbrev with_first : Code → List Code × ℕ → Option (List Code × ℕ)
 with_first c l = Some (c ∷ l.0, l.1)
 
@@ -52,14 +52,14 @@ unfolding layout_from
 goes_on o front offset item None lt = refl
 goes_on o front offset item (Some others) lt = rw (lt-ltb _ _ lt) (regroup o front (code_at o offset item) (layout_from o (offset_after o offset (code_at o offset item)) others))
 
--- a code that doesn't fit
+-- if a code doesn't fit, there is no format
 pub passes : (o : Endianness) (front : List Code) (offset : ℕ) (item : CountedCode) (items : Option (List CountedCode)) → 2 ^ 63 ≤ offset_after o offset (code_at o offset item)
     → format_of_rest o front offset (items >>= with_item item) ≡ None
 unfolding layout_from
 passes o front offset item None le = refl
 passes o front offset item (Some others) le = rw (le-ltb _ _ le) refl
 
--- a count that passes `isize::MAX`
+-- if a count passes `isize::MAX`, so does the offset after its code
 count_passes : (o : Endianness) (offset : ℕ) (c : FormatType) (n : ℕ) → 2 ^ 63 ≤ n → 2 ^ 63 ≤ offset_after o offset (code_at o offset (record { repeat = n; code = c }))
 count_passes o offset c n le = omega (arith, le-span o (code_at o offset (record { repeat = n; code = c })))
 

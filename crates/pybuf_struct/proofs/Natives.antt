@@ -35,7 +35,7 @@ unfolding codes_in layout_from format_after_prefix
 size_alone code.Pad = refl
 size_alone _ = refl
 
--- the letter of the code is all that a text has
+-- a text that spells a single code is the letter of this code
 is_letter : (text : List ℕ) (c : FormatType) → single_code text ≡ Some c → text ≡ letter c ∷ []
 is_letter [] c is = absurd cc
 is_letter (b ∷ []) c is = ap (λ (x : ℕ). x ∷ []) (sym (eqb-true (letter c) b (find_passes (λ d. letter d == b) every_code c is)))

@@ -1,4 +1,4 @@
--- A number read from its own digits, and the digits of a number that was read.
+-- A number is read from its own digits, and a number that was read has these digits.
 use Rattle.std.proofs.Common.{◌≡◌, ℕ, zero, suc, ◌+◌, ◌-◌, ◌*◌, ◌^◌, ◌<◌, ◌≤◌, Bool, true, false, leb, List, [], ◌∷◌, length, get_or, ℤ, pos, negsuc, ◌-ℤ◌, refl, sym, ap, subst, ◌∙◌, arith}
 use Rattle.std.specs.Prelude.{IsTrue}
 use Rattle.std.specs.Int.{w16, w32, from_le_bytes, from_be_bytes}
@@ -131,7 +131,7 @@ back_eight big bytes len fits = rw (eight_items bytes len) (eight big (get_or by
 pub reads_back : (size : ℕ) → IsTrue (is_width size) → (big : Bool) (bytes : List ℕ) → length bytes ≡ size → IsBytes bytes → (digits_of big size (unsigned_number big bytes) ≡ bytes) × (unsigned_number big bytes < 256 ^ size)
 reads_back size w = by_width ReadsBack back_one back_two back_four back_eight size w
 
--- what is read in two's complement is in range, and stands so in its bytes
+-- a number that is read in two's complement is in range, and its bytes hold it in the same way
 below_zero : (size n : ℕ) → n < 256 ^ size → pos n -ℤ pos (256 ^ size) ≡ negsuc (256 ^ size - suc n)
 below_zero size n lt = omega (arith, ints)
 

@@ -1,4 +1,4 @@
--- Values checked, and then written, one field after another.
+-- Values are checked first, and then written, one field after another.
 use Rattle.std.proofs.Common.{◌≡◌, ℕ, suc, ◌+◌, ◌-◌, ◌<◌, ◌≤◌, true, false, List, [], ◌∷◌, ◌++◌, length, get_or, take, drop, Result, Ok, Err, refl, sym, ap, ◌∙◌, add-one, arith}
 use Rattle.std.proofs.Math.Seq.{drop-cons}
 use Rattle.std.proofs.lemmas.List.{drop_all, length-take, length-drop, drop-drop}
@@ -77,7 +77,7 @@ checks_refused : (o : Endianness) (pairs : List (ℕ × Snap)) (size : ℕ) (all
 checks_refused o pairs size all values left rest f v i e checks lt is left_is refused =
     sym checks.same ∙ ap refusal_of (contents_at o pairs values left rest f v i lt is left_is) ∙ refused_first (bytes_of o pairs f.code f.length v) (contents_of o pairs rest (drop (i + 1) values)) e refused
 
--- what a check of one field gave
+-- if a check of a field gave no error, it accepted the value
 pub is_accepted : (r : Result (Unit {0}) Fault) → is_err r ≡ false → r ≡ Ok tt
 is_accepted (Ok x) h = refl
 is_accepted (Err e) h = absurd cc
@@ -114,7 +114,7 @@ pub writes_nothing : (o : Endianness) (pairs : List (ℕ × Snap)) (codes : List
 writes_nothing o pairs codes values room left ok is =
     record { same = rw is refl; accepted = rw is ok; counts = omega (arith, same_counts o pairs (fields_from o 0 codes) values ok, ap length is); sound = rw is (fields_sound o (extent o codes) 0 codes (omega arith)) }
 
--- the part of a list from an offset on
+-- the part of a list from an offset on has its length
 pub part_length : (offset len : ℕ) (room : List ℕ) → offset + len ≤ length room → length (take (offset + len - offset) (drop offset room)) ≡ len
 part_length offset len room within = omega (arith, length-take (offset + len - offset) (drop offset room), length-drop offset room)
 

@@ -1,4 +1,4 @@
--- Fields written one after another: none touches another.
+-- Fields are written one after another, and none touches another.
 use Rattle.std.proofs.Common.{◌≡◌, ℕ, zero, suc, ◌+◌, ◌*◌, ◌≤◌, List, [], ◌∷◌, ◌++◌, length, take, drop, map, refl, sym, ap, subst, ◌∙◌, append_assoc, arith}
 use Rattle.std.specs.Prelude.{IsTrue}
 use Rattle.std.proofs.lemmas.List.{length-take, length-drop, length-append, take_at, drop_at, take-append-le, take-take, drop-take, drop-drop, take_all, drop_all, take-append-drop, append-nil}
@@ -84,7 +84,7 @@ take-room_with_fields p (f ∷ fs) q (bytes ∷ contents) room s le fills =
     ∙ take-take p (f.offset + f.length) after lower
     ∙ take-room_with p f.offset bytes room s.0 (omega arith)
 
--- a field keeps its bytes while those after it are written
+-- a field keeps its bytes while the fields after it are written
 pub field_kept : (f : Field) (fs : List Field) (q : ℕ) (bytes : List ℕ) (contents : List (List ℕ)) (room : List ℕ) → Spread (f.offset + f.length) fs q → q ≤ length room → length bytes ≡ f.length → Fills fs contents
     → take f.length (drop f.offset (room_with_fields fs contents (room_with f.offset bytes room))) ≡ bytes
 field_kept f fs q bytes contents room s le long fills =
@@ -134,7 +134,7 @@ Tiles-le p (f ∷ fs) q t = omega (arith, Tiles-le (p + f.length) fs q t.1)
 abbrev pub part : List ℕ → Field → List ℕ
 part bytes f = take f.length (drop f.offset bytes)
 
--- the parts of bytes written over a room of their length are the bytes
+-- if the parts of some bytes are written over a room of the same length, the room has these bytes
 pub written_parts : (bytes : List ℕ) (p : ℕ) (fs : List Field) (q : ℕ) (room : List ℕ) → Tiles p fs q → q ≡ length bytes → length room ≡ length bytes → room_with_fields fs (map (part bytes) fs) room ≡ take p room ++ drop p bytes
 written_parts bytes p [] q room t whole same =
     let all : length room ≤ p = omega (arith, t) in

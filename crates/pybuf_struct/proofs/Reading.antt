@@ -1,4 +1,4 @@
--- A format's text read byte by byte, with the count so far.
+-- A format's text is read byte by byte, with the count so far.
 use Rattle.std.proofs.Common.{◌≡◌, ℕ, ◌+◌, ◌-◌, ◌*◌, ◌<◌, Bool, true, false, List, [], ◌∷◌, ◌++◌, length, Option, Some, None, refl, sym, ap, ◌∙◌, append_assoc, arith, tests}
 use Rattle.std.specs.Prelude.{unwrap_or, if◌then◌else◌}
 use Rattle.std.specs.Char.{is_ascii_digit, digit_value}
@@ -9,7 +9,7 @@ use Rattle.pybuf_struct.specs.declared.table.Endianness.{Endianness}
 use Rattle.pybuf_struct.specs.Formats.{CountedCode, count_of, allowed_code, codes_in}
 use Rattle.pybuf_struct.proofs.Cutting.{with_item, codes-cut, codes-none, codes-digits}
 
--- the codes of a text that goes on after the digits of a count, if there are such
+-- the codes of a text that goes on after the digits of a count, if there are such codes
 unfoldable pub codes_after_count : Endianness → List ℕ → Option ℕ → Option (List CountedCode)
 codes_after_count o [] None = Some []
 codes_after_count o [] (Some n) = None
@@ -17,7 +17,7 @@ codes_after_count o (b ∷ text) count =
     if is_ascii_digit b then codes_after_count o text (Some (unwrap_or count 0 * 10 + (b - 48)))
     else (allowed_code o b >>= λ c. codes_after_count o text None >>= with_item (record { repeat = unwrap_or count 1; code = c }))
 
--- the count that digits so far make
+-- the count that the digits so far spell
 abbrev IsCountOf : Option ℕ → List ℕ → Type 0
 IsCountOf None digits = digits ≡ []
 IsCountOf (Some n) digits = (0 < length digits) × AllDigits 10 digits × (digits_value 10 digits ≡ n)
@@ -60,7 +60,7 @@ at_end o None digits is = rw is (sym (codes-none o))
 at_end o (Some n) [] is = absurd (omega (arith, is.0))
 at_end o (Some n) (d ∷ digits) is = sym (codes-digits o d digits is.1)
 
--- what is left of a text gives the codes of that with the digits so far in front
+-- what is left of a text gives the same codes as that text with the digits so far before it
 reads_byte : (o : Endianness) (b : ℕ) (text : List ℕ) (count : Option ℕ) (digits : List ℕ) → IsCountOf count digits
     → ((further : Option ℕ) (more : List ℕ) → IsCountOf further more → codes_after_count o text further ≡ codes_in o (more ++ text))
     → (r : Bool) → is_ascii_digit b ≡ r → codes_after_count o (b ∷ text) count ≡ codes_in o (digits ++ b ∷ text)
@@ -72,7 +72,7 @@ reads_byte o b text count digits is rest false e =
     ∙ ap (λ (n : ℕ). allowed_code o b >>= λ c. codes_in o text >>= with_item (record { repeat = n; code = c })) (sym (count_is count digits is))
     ∙ sym (codes-cut o digits b text (are_digits count digits is) e))
 
--- what is left of a text gives the codes of that with the digits so far in front
+-- what is left of a text gives the same codes as that text with the digits so far before it
 reads : (o : Endianness) (text : List ℕ) (count : Option ℕ) (digits : List ℕ) → IsCountOf count digits → codes_after_count o text count ≡ codes_in o (digits ++ text)
 reads o [] count digits is = at_end o count digits is ∙ ap (codes_in o) (sym (append-nil digits))
 reads o (b ∷ text) count digits is = reads_byte o b text count digits is (λ further more k. reads o text further more k) (is_ascii_digit b) refl

@@ -1,4 +1,4 @@
--- Values read one after another.
+-- Values are read one after another.
 use Rattle.std.proofs.Common.{◌≡◌, ℕ, suc, ◌+◌, ◌-◌, ◌*◌, ◌<◌, ◌≤◌, List, [], ◌∷◌, ◌++◌, length, take, drop, map, sym, ap, ◌∙◌, append_assoc, arith}
 use Rattle.std.proofs.lemmas.List.{append-nil}
 use Rattle.pybuf_value.specs.declared.values.Scalar.{Scalar}
@@ -7,7 +7,7 @@ use Rattle.pybuf_struct.specs.declared.table.FormatType.{FormatType}
 use Rattle.pybuf_struct.specs.Formats.{fields_in_row}
 use Rattle.pybuf_struct.specs.Values.{value_of, value_in}
 
--- so many fields of a row are read into a list that began as another
+-- so many fields of a row are read, and their values are added to a list
 pub record Reads (o : Endianness) (bytes : List ℕ) (code : FormatType) (size offset count at done : ℕ) (before out : List Scalar) : Type 0 where
   pub same : out ++ map (value_in o bytes) (fields_in_row code size at (count - done)) ≡ before ++ map (value_in o bytes) (fields_in_row code size offset count)
   pub within : at + (count - done) * size ≤ length bytes
@@ -44,7 +44,7 @@ reads_all o bytes code size offset count at done before out reads le =
     let left : count - done ≡ 0 = omega arith in
     sym (append-nil out) ∙ ap (λ (n : ℕ). out ++ map (value_in o bytes) (fields_in_row code size at n)) (sym left) ∙ reads.same
 
--- the offset after them
+-- where the fields of a row end
 pub reads_end : (o : Endianness) (bytes : List ℕ) (code : FormatType) (size offset count at done : ℕ) (before out : List Scalar) → Reads o bytes code size offset count at done before out → count ≤ done → at ≡ offset + count * size
 reads_end o bytes code size offset count at done before out reads le =
     let all : done ≡ count = omega (arith, reads.some_left) in

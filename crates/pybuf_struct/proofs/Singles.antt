@@ -87,7 +87,7 @@ refused : (c : FormatType) (n : ℕ) (r : Result (List ℕ) Fault) → IsErr r �
 refused c n (Err f) is = is
 refused c n (Ok first) is = absurd cc
 
--- a value that is a number or a truth value takes nothing of what is lent
+-- a code whose values are numbers or truth values looks at nothing that is lent
 unlent : (c : FormatType) (pairs : List (ℕ × Snap)) (v : Scalar) → is_numeric c ≡ true → bytes_of order.Native pairs c (size_of order.Native c) v ≡ bytes_of order.Native [] c (size_of order.Native c) v
 unlent code.Pad pairs v numeric = absurd cc
 unlent code.Char pairs v numeric = absurd cc

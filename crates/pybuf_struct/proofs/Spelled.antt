@@ -1,4 +1,4 @@
--- A format that a text spells has codes of its prefix, and ends where they end.
+-- A format that a text spells has codes that its prefix allows, and its size is where they end.
 use Rattle.std.proofs.Common.{◌≡◌, ℕ, ◌^◌, Bool, true, false, cond, ltb, List, [], ◌∷◌, length, map, Option, Some, None, Ok, refl, ap, subst}
 use Rattle.std.specs.Prelude.{drop}
 use Rattle.std.specs.Char.{is_ascii_digit}

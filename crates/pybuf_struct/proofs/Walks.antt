@@ -1,4 +1,4 @@
--- The fields of one code after another.
+-- The fields of one code are read after those of another.
 use Rattle.std.proofs.Common.{◌≡◌, ℕ, suc, ◌+◌, ◌<◌, ◌≤◌, List, ◌∷◌, ◌++◌, length, get_or, drop, map, sym, ap, ◌∙◌, append_assoc, add-one, arith}
 use Rattle.std.proofs.Math.Seq.{drop-cons}
 use Rattle.std.proofs.lemmas.List.{append-nil, drop_all, map-append}
@@ -8,7 +8,7 @@ use Rattle.pybuf_struct.specs.Table.{size_of}
 use Rattle.pybuf_struct.specs.Formats.{Code, Field, span, extent, offset_after, fields_of_code, fields_from}
 use Rattle.pybuf_struct.specs.Values.{value_in}
 
--- the values of the first codes are read into a list that began as another
+-- the values of the first codes are read, and are added to a list
 pub record Walks (o : Endianness) (bytes : List ℕ) (codes : List Code) (at i : ℕ) (before out : List Scalar) : Type 0 where
   pub same : out ++ map (value_in o bytes) (fields_from o at (drop i codes)) ≡ before ++ map (value_in o bytes) (fields_from o 0 codes)
   pub within : at + extent o (drop i codes) ≤ length bytes

@@ -1,4 +1,4 @@
--- Eight digits as std reads them.
+-- Eight digits, as the standard library reads them.
 use Rattle.std.proofs.Common.{◌≡◌, ℕ, List, [], ◌∷◌, length, get_or, refl, arith}
 use Rattle.std.specs.Int.{w64, from_be_bytes, from_le_bytes}
 use Rattle.pybuf_struct.specs.Digits.{little_endian, big_endian}

@@ -27,8 +27,8 @@ prefix_of (b ∷ rest) =
     else if b == byte "!" then (order.Big, rest)
     else (order.Native, b ∷ rest)
 
--- A text cut after each byte that is no digit. So a part is the digits of a count, maybe none, and then the letter of
--- a code; where the text ends with digits, they are a last part without a letter.
+-- A text is cut after each byte that is no digit. So a part has the digits of a count, if there are any, and then the
+-- letter of a code. If the text ends with digits, these are a last part without a letter.
 abbrev pub parts_of : List ℕ → List (List ℕ)
 parts_of [] = []
 parts_of (b ∷ rest) = if is_ascii_digit b then onto_first b (parts_of rest) else (b ∷ []) ∷ parts_of rest
@@ -38,18 +38,18 @@ pub record CountedCode : Type 0 where
   pub repeat : ℕ
   pub code : FormatType
 
--- the count that digits spell in decimal, 1 where there are none
+-- the count that digits spell in decimal; it is 1 if there are none
 abbrev pub count_of : List ℕ → ℕ
 count_of [] = 1
 count_of (digit ∷ digits) = digits_value 10 (digit ∷ digits)
 
--- the code that a byte spells, where formats of this prefix have it
+-- the code that a byte spells, if formats of this prefix have it
 abbrev pub allowed_code : Endianness → ℕ → Option FormatType
 allowed_code o b = do
   code ← code_of b
   if is_allowed o code then Some code else None
 
--- what follows the digits of a count: one letter
+-- the code that stands after the digits of a count: it is one letter
 abbrev pub code_after : Endianness → ℕ → List ℕ → Option CountedCode
 code_after o count (letter ∷ []) = do
   code ← allowed_code o letter
@@ -60,7 +60,7 @@ code_after o count _ = None
 abbrev pub counted_code : Endianness → List ℕ → Option CountedCode
 counted_code o part = let digits = take_while is_ascii_digit part in code_after o (count_of digits) (drop (length digits) part)
 
--- what each part spells, where every one spells a code
+-- the codes that the parts spell, if each part spells one
 abbrev pub each_code : Endianness → List (List ℕ) → Option (List CountedCode)
 each_code o [] = Some []
 each_code o (part ∷ parts) = do
@@ -80,21 +80,21 @@ pub record Code : Type 0 where
   pub code : FormatType
   pub pre_padding : ℕ
 
--- a format: the order of its bytes, its codes, and its total size
+-- a format: its byte order, its codes, and its total size
 pub record Format : Type 0 where
   pub order : Endianness
   pub codes : List Code
   pub size : ℕ
 
--- what an offset lacks to the next multiple of an alignment
+-- how many bytes an offset is below the next multiple of an alignment
 abbrev pub padding : ℕ → ℕ → ℕ
 padding alignment offset = if offset % alignment == 0 then 0 else alignment - offset % alignment
 
--- the bytes of a code without its padding
+-- the bytes that a code takes, without its padding
 abbrev pub span : Endianness → Code → ℕ
 span o c = c.repeat * size_of o c.code
 
--- the bytes of codes one after another
+-- the bytes that codes take, one after another
 abbrev pub extent : Endianness → List Code → ℕ
 extent o [] = 0
 extent o (c ∷ codes) = c.pre_padding + span o c + extent o codes
@@ -103,12 +103,13 @@ extent o (c ∷ codes) = c.pre_padding + span o c + extent o codes
 abbrev pub code_at : Endianness → ℕ → CountedCode → Code
 code_at o offset item = record { repeat = item.repeat; code = item.code; pre_padding = padding (alignment_of o item.code) offset }
 
--- the offset after a code
+-- the offset behind a code
 abbrev pub offset_after : Endianness → ℕ → Code → ℕ
 offset_after o offset c = offset + c.pre_padding + span o c
 
--- The codes from an offset on, each after its padding, and the last offset, which is the total size. There are none
--- where an offset passes `isize::MAX`; so does a count that passes it, since each unit takes a byte or more.
+-- The codes from an offset on, each after its padding, and the last offset, which is the total size. There are none if
+-- an offset passes `isize::MAX`. A count that passes it leads to such an offset, since each unit takes at least one
+-- byte.
 unfoldable pub layout_from : Endianness → ℕ → List CountedCode → Option (List Code × ℕ)
 layout_from o offset [] = Some ([], offset)
 layout_from o offset (item ∷ items) =
@@ -125,24 +126,25 @@ format_after_prefix o text = do
   layout ← layout_from o 0 items
   Some (record { order = o; codes = layout.0; size = layout.1 })
 
--- the format that a text spells; `StructError` where it spells none
+-- the format that a text spells; a text that spells none is refused with `StructError`
 abbrev pub format_of : List ℕ → Result Format Fault
 format_of text = ok_or (format_after_prefix (prefix_of text).0 (prefix_of text).1) fault.Struct
 
 -- ---- fields
 
--- what holds one value: the bytes from an offset
+-- a field, which holds one value in the bytes from an offset on
 pub record Field : Type 0 where
   pub code : FormatType
   pub offset : ℕ
   pub length : ℕ
 
--- so many fields of one size, one after another
+-- this many fields of one size, one after another
 abbrev pub fields_in_row : FormatType → ℕ → ℕ → ℕ → List Field
 fields_in_row c size offset zero = []
 fields_in_row c size offset (suc n) = record { code = c; offset = offset; length = size } ∷ fields_in_row c size (offset + size) n
 
--- the fields of a count of a code: `s` and `p` have one of all its bytes, `x` none, and every other code one for each unit
+-- the fields of a code and its count: `s` and `p` have one field of all their bytes, `x` has none, and every other code
+-- has one for each unit
 abbrev pub fields_of_code : FormatType → ℕ → ℕ → ℕ → List Field
 fields_of_code code.Pad size offset n = []
 fields_of_code code.Str size offset n = record { code = code.Str; offset = offset; length = n } ∷ []
@@ -160,7 +162,7 @@ fields_from o offset (c ∷ codes) =
 abbrev pub fields : Format → List Field
 fields f = fields_from f.order 0 f.codes
 
--- the number of fields that a count of a code gives
+-- how many fields a code and its count give
 abbrev pub field_count_of : FormatType → ℕ → ℕ
 field_count_of code.Pad n = 0
 field_count_of code.Str n = 1
@@ -170,7 +172,8 @@ field_count_of _ n = n
 abbrev pub field_count : Code → ℕ
 field_count c = field_count_of c.code c.repeat
 
--- what every format keeps: its codes fill its size, which is at most `isize::MAX`, and its fields are counted
+-- what holds of each format that is kept: its codes fill its size, which is at most `isize::MAX`, and its fields are
+-- counted
 pub record IsKept (o : Endianness) (codes : List Code) (size arg_count : ℕ) : Type 0 where
   pub bound : size < 2 ^ 63
   pub filled : extent o codes ≡ size

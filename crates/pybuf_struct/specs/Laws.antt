@@ -1,4 +1,4 @@
--- What reading gives of what was written.
+-- The laws of formats: what is read from bytes that were written, and where fields lie.
 use Rattle.std.specs.Str.{byte}
 use Rattle.std.specs.Prelude.{◌⊎◌, Some, IsTrue, Bool, true, false, ℕ, ◌==◌, ◌+◌, ◌-◌, ◌%◌, ◌^◌, ◌≡◌, ◌<◌, ◌≤◌, min, not, List, [], ◌∷◌, ◌++◌, length, map, take, ℤ, Result, Ok, Err, if◌then◌else◌}
 use Rattle.std.specs.List.{All, AllByRecursion}
@@ -35,8 +35,9 @@ normal_bytes cut (Err f) = scalar.None
 abbrev pub normal_pascal : ℕ → Result (List ℕ) Fault → Scalar
 normal_pascal len content = if len == 0 then scalar.Bytes [] else normal_bytes (take (min (len - 1) 255)) content
 
--- What a field of a code and a length gives back of a value that it took: a number as a whole number, a truth value for
--- `?`, the bytes of `s` cut or filled with zeros, and those of `p` cut to the least of the length less 1 and 255.
+-- What a field gives back of a value that was written to it. A number comes back as a whole number, and a value of `?`
+-- as a truth value. The bytes of `s` are cut or filled with zeros to the field's length. The bytes of `p` are cut to
+-- the length less 1, and to 255.
 abbrev pub normal_of : List (ℕ × Snap) → FormatType → ℕ → Scalar → Scalar
 normal_of pairs code.Pad len v = scalar.None
 normal_of pairs code.Char len v = normal_bytes (λ bytes. bytes) (bytes_alone pairs v)
@@ -45,29 +46,30 @@ normal_of pairs code.Str len v = normal_bytes (fitted_to len) (bytes_like pairs 
 normal_of pairs code.Pascal len v = normal_pascal len (bytes_like pairs v)
 normal_of pairs c len v = normal_number (number_in v)
 
--- the same of each field, in order
+-- the same for each field, in order
 abbrev pub normal_values : List (ℕ × Snap) → List Field → List Scalar → List Scalar
 normal_values pairs (f ∷ fs) (v ∷ vs) = normal_of pairs f.code f.length v ∷ normal_values pairs fs vs
 normal_values pairs [] vs = []
 normal_values pairs (f ∷ fs) [] = []
 
--- a code whose every byte comes back as it was: neither `x`, `?` nor `p`
+-- a code for which every byte comes back as it was, which holds of all but `x`, `?` and `p`
 abbrev pub is_exact : FormatType → Bool
 is_exact code.Pad = false
 is_exact code.Bool = false
 is_exact code.Pascal = false
 is_exact _ = true
 
--- codes without padding whose every byte comes back as it was
+-- each code has no padding, and every byte of it comes back as it was
 abbrev pub AreExact : List Code → Type 0
 AreExact codes = AllByRecursion (λ c. (c.pre_padding ≡ 0) × IsTrue (is_exact c.code)) codes
 
--- fields that begin at p or later, each at or after the end of the one before it, and end at q at the latest
+-- fields that begin at p or later; each begins at or after the end of the one before it, and the last ends at q at the
+-- latest
 abbrev pub Spread : ℕ → List Field → ℕ → Type 0
 Spread p [] q = p ≤ q
 Spread p (f ∷ fs) q = (p ≤ f.offset) × Spread (f.offset + f.length) fs q
 
--- a field that begins at a multiple of its code's alignment
+-- a field begins at a multiple of its code's alignment
 abbrev pub IsAligned : Endianness → Field → Type 0
 IsAligned o f = f.offset % alignment_of o f.code ≡ 0
 
@@ -75,7 +77,7 @@ IsAligned o f = f.offset % alignment_of o f.code ≡ 0
 abbrev pub FieldsLieInOrder : Type 0
 FieldsLieInOrder = (text : List ℕ) (f : Format) → format_of text ≡ Ok f → Spread 0 (fields f) f.size × AllByRecursion (IsAligned f.order) (fields f)
 
--- A format that a text spells has the order of its prefix, and codes that formats of this prefix have.
+-- A format that a text spells has the order of its prefix, and only codes that formats of this prefix have.
 abbrev pub CodesAreAllowed : Type 0
 CodesAreAllowed =
     (text : List ℕ) (f : Format) → format_of text ≡ Ok f
@@ -85,19 +87,19 @@ CodesAreAllowed =
 abbrev pub SizesEndTheCodes : Type 0
 SizesEndTheCodes = (text : List ℕ) (f : Format) → format_of text ≡ Ok f → f.size ≡ end_after f.order 0 (map item_of_code f.codes)
 
--- Reading by a format gives of values that were written by it what each field gives back.
+-- Values that were written by a format are read as what each field gives back of its value.
 abbrev pub ReadsWhatWasWritten : Type 0
 ReadsWhatWasWritten =
     (text : List ℕ) (f : Format) (pairs : List (ℕ × Snap)) (args : List Scalar) (bytes : List ℕ)
     → format_of text ≡ Ok f → packed_bytes f pairs args ≡ Ok bytes → unpacked_values f bytes ≡ Ok (normal_values pairs (fields f) args)
 
--- Writing by an exact format gives the bytes that the values were read from.
+-- If values were read by an exact format, writing them by this format gives the same bytes.
 abbrev pub WritesWhatWasRead : Type 0
 WritesWhatWasRead =
     (text : List ℕ) (f : Format) (pairs : List (ℕ × Snap)) (args : List Scalar) (bytes : List ℕ)
     → format_of text ≡ Ok f → AreExact f.codes → All (λ b. b < 256) bytes → unpacked_values f bytes ≡ Ok args → packed_bytes f pairs args ≡ Ok bytes
 
--- What values are packed to has the size of the format.
+-- The bytes that values are packed to are as many as the size of the format says.
 abbrev pub PackingFillsTheFormat : Type 0
 PackingFillsTheFormat =
     (text : List ℕ) (f : Format) (pairs : List (ℕ × Snap)) (args : List Scalar) (bytes : List ℕ)
@@ -107,16 +109,16 @@ PackingFillsTheFormat =
 abbrev pub BytesOfTheSizeAreRead : Type 0
 BytesOfTheSizeAreRead = (f : Format) (bytes : List ℕ) → length bytes ≡ f.size → unpacked_values f bytes ≡ Ok (values f bytes)
 
--- Codes with their counts that are written after a prefix are read as the same order, codes and counts, if their whole
--- size is at most `isize::MAX`.
+-- Codes and counts that are written after a prefix are read as the same order, codes and counts, if their whole size is
+-- at most `isize::MAX`.
 abbrev pub FormatsReadBack : Type 0
 FormatsReadBack =
     (o : Endianness) (prefix : List ℕ) (ws : List WrittenCode)
     → IsPrefixOf o prefix → AreWritten o ws → end_after o 0 (items_of_codes ws) < 2 ^ 63
     → (f : Format) × (format_of (prefix ++ text_of_codes ws) ≡ Ok f) × (f.order ≡ o) × (map item_of_code f.codes ≡ items_of_codes ws)
 
--- A text is a format of one native code where it is the letter of a code other than `x`, `s` and `p`, alone or behind
--- `@`, and nowhere else.
+-- A text is a format of one native code exactly if it is the letter of a code other than `x`, `s` and `p`, alone or
+-- behind `@`.
 pub record NativeCodesAreSpelled : Type 0 where
   pub alone : (c : FormatType) → is_item_code c ≡ true → native_single_code (letter c ∷ []) ≡ Some c
   pub behind : (c : FormatType) → is_item_code c ≡ true → native_single_code (byte "@" ∷ letter c ∷ []) ≡ Some c

@@ -1,5 +1,5 @@
--- The table of codes: the letter of each, where it is allowed, its size and its alignment.
--- Native sizes and alignments, and the native order of bytes, are those of a 64-bit little-endian machine.
+-- The table of codes: the letter of each code, in which formats it is allowed, its size and its alignment. Native
+-- sizes, native alignments and the native byte order are those of a 64-bit little-endian machine.
 use Rattle.std.specs.Prelude.{ℕ, Bool, true, false, List, [], ◌∷◌, Option, ◌==◌}
 use Rattle.std.specs.List.{find}
 use Rattle.std.specs.Str.{byte}
@@ -39,7 +39,7 @@ every_code =
 abbrev pub code_of : ℕ → Option FormatType
 code_of b = find (λ c. letter c == b) every_code
 
--- no prefix and `@`, against the prefixes of standard formats
+-- whether a prefix is native, as no prefix and `@` are; the others are prefixes of standard formats
 abbrev pub is_native : Endianness → Bool
 is_native order.Native = true
 is_native _ = false
@@ -49,7 +49,7 @@ abbrev pub is_big : Endianness → Bool
 is_big order.Big = true
 is_big _ = false
 
--- `n`, `N` and `u` have no standard size
+-- whether formats of a prefix have a code: `n`, `N` and `u` have no standard size
 abbrev pub is_allowed : Endianness → FormatType → Bool
 is_allowed o code.SSizeT = is_native o
 is_allowed o code.SizeT = is_native o
@@ -73,7 +73,7 @@ size_of o code.SizeT = 8
 size_of o code.WideChar = 4
 size_of o _ = 1
 
--- what an offset is raised to a multiple of before a code; 1 where there is no alignment
+-- the offset is raised to a multiple of this number before a code; it is 1 if the code has no alignment
 abbrev pub native_alignment : FormatType → ℕ
 native_alignment code.Short = 2
 native_alignment code.UShort = 2

@@ -13,12 +13,12 @@ use Rattle.pybuf_struct.specs.Table.{is_big, is_signed, size_of}
 use Rattle.pybuf_struct.specs.Digits.{number}
 use Rattle.pybuf_struct.specs.Formats.{Format, Field, fields}
 
--- the bytes of a Pascal string: as many as its first byte says, at most the rest of the field
+-- the bytes of a Pascal string: as many as its first byte says, but at most the rest of the field
 abbrev pub pascal_content : List ℕ → List ℕ
 pascal_content [] = []
 pascal_content (len ∷ rest) = take len rest
 
--- the value of a field's bytes
+-- the value that a field's bytes are read as
 abbrev pub value_of : Endianness → FormatType → List ℕ → Scalar
 value_of o code.Pad bytes = scalar.None
 value_of o code.Char bytes = scalar.Bytes bytes
@@ -34,16 +34,17 @@ value_in o bytes field = value_of o field.code (take field.length (drop field.of
 abbrev pub values : Format → List ℕ → List Scalar
 values f bytes = map (value_in f.order bytes) (fields f)
 
--- the values of bytes of the format's size; of any other length `StructError`
+-- the values of bytes, if their number is the format's size; any other number is refused with `StructError`
 abbrev pub unpacked_values : Format → List ℕ → Result (List Scalar) Fault
 unpacked_values f bytes = if length bytes == f.size then Ok (values f bytes) else Err fault.Struct
 
--- an item of exactly one value reads as that value, of any other number as a tuple
+-- an item of exactly one value is read as that value, and an item of any other number of values as a tuple
 abbrev pub item_of : List Scalar → Item
 item_of (v ∷ []) = item.One v
 item_of vs = item.Many vs
 
--- whether a field of a code may have so many bytes: `s` and `p` any, and every other code those of one unit
+-- whether a field of a code may have this many bytes: `s` and `p` may have any number, and every other code has those of
+-- one unit
 abbrev pub is_length : Endianness → FormatType → ℕ → Bool
 is_length o code.Str n = true
 is_length o code.Pascal n = true

@@ -14,7 +14,7 @@ counted (scalar.Bool true) = scalar.Int (pos 1)
 counted (scalar.Bool false) = scalar.Int (pos 0)
 counted s = s
 
--- of one kind, and the same value of it
+-- the two values are of one kind, and have the same value of that kind
 abbrev pub identical : Scalar → Scalar → Bool
 identical scalar.None scalar.None = true
 identical (scalar.Bool true) (scalar.Bool true) = true
@@ -26,15 +26,15 @@ identical scalar.Ellipsis scalar.Ellipsis = true
 identical (scalar.Handle m) (scalar.Handle n) = m == n
 identical _ _ = false
 
--- two values without parts: of one kind and the same, a truth value counting as 0 or 1
+-- two values without parts are equal if they are of one kind and the same; a truth value counts as 0 or 1
 abbrev pub same_scalar : Scalar → Scalar → Bool
 same_scalar left right = identical (counted left) (counted right)
 
--- the parts of two tuples: as many, and equal in pairs
+-- two tuples are equal if they have as many parts, and the parts are equal in pairs
 abbrev pub same_parts : List Scalar → List Scalar → Bool
 same_parts = pointwise same_scalar
 
--- two items: both single, or both tuples of one length, with equal parts
+-- two items are equal if both are single, or both are tuples of one length, and their parts are equal
 abbrev pub same_item : Item → Item → Bool
 same_item (item.One left) (item.One right) = same_scalar left right
 same_item (item.Many left) (item.Many right) = same_parts left right

@@ -1,4 +1,4 @@
--- What holds of equality, of the order and of texts between quotes.
+-- The laws of equality, of the order of bytes, and of texts between quotes.
 use Rattle.std.specs.Prelude.{◌≡◌, ◌↔◌, ℕ, Bool, true, false, not, IsTrue, List, map, ◌<◌, Some}
 use Rattle.std.specs.Bool.{Decides}
 use Rattle.std.specs.List.{All}
@@ -44,12 +44,12 @@ ScalarEqualityIsEquivalence = IsEquality same_scalar
 abbrev pub ItemEqualityIsEquivalence : Type 0
 ItemEqualityIsEquivalence = IsEquality same_item
 
--- two values are equal exactly where they are the same once truth values are counted
+-- two values are equal exactly if they are the same once truth values are counted as numbers
 abbrev pub EqualWhereTheSame : {A : Type 0} → (A → A) → (A → A → Bool) → Type 0
 EqualWhereTheSame {A} count equal = (x y : A) → Decides (equal x y) (count x ≡ count y)
 
--- Rust's `==` holds of two values exactly where they are the same: a truth value isn't the number that
--- it counts as.
+-- Rust's `==` holds of two values exactly if they are the same. To it, a truth value isn't the number that it counts
+-- as.
 pub record EqualExactly : Type 0 where
   pub texts : (x y : List ℕ) → Decides (text_eq.eq-value.it x y) (x ≡ y)
   pub scalars : (x y : Scalar) → Decides (scalar_eq.eq-value.it x y) (x ≡ y)
@@ -60,8 +60,9 @@ pub record EqualExactly : Type 0 where
 
 -- ---- order
 
--- An order in which any two lists have a place: they are equal exactly where they are the same, one is
--- less exactly where the other is greater, and less than a lesser one is less.
+-- An order in which any two lists have a place. Two lists are equal in it exactly if they are the same. One is less
+-- than another exactly if the other is greater. If one is less than a second and this is less than a third, the first
+-- is less than the third.
 pub record OrdersAll (order : List ℕ → List ℕ → Ordering) : Type 0 where
   pub equal : (xs ys : List ℕ) → (order xs ys ≡ Equal) ↔ (xs ≡ ys)
   pub turned : (xs ys : List ℕ) → order ys xs ≡ ordering_reverse (order xs ys)
@@ -73,7 +74,7 @@ exactly_one false true false = true
 exactly_one false false true = true
 exactly_one _ _ _ = false
 
--- of `<`, `==` and `>` exactly one answers true, and each other operator denies one of these
+-- exactly one of `<`, `==` and `>` answers true, and each other operator denies one of these
 pub record OperatorsAgree (order : Ordering) : Type 0 where
   pub one : IsTrue (exactly_one (answers op.Lt order) (answers op.Eq order) (answers op.Gt order))
   pub unequal : answers op.Ne order ≡ not (answers op.Eq order)
@@ -86,6 +87,6 @@ pub record OperatorsAgree (order : Ordering) : Type 0 where
 abbrev pub ReadBack : List ℕ → Type 0
 ReadBack bytes = All (λ b. b < 256) bytes → unquoted (quoted_text bytes) ≡ Some bytes
 
--- each byte of the text of a value is one of ASCII
+-- each byte of the text of a value is an ASCII byte
 abbrev pub SpelledInAscii : Scalar → Type 0
 SpelledInAscii s = IsAscii (scalar_text handle_text s)

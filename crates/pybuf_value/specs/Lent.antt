@@ -13,7 +13,7 @@ abbrev pub lent_bytes : Lent → List ℕ
 lent_bytes (lent.Lies bytes) = bytes.now
 lent_bytes (lent.Gathered bytes) = bytes.items
 
--- a result is these bytes, or their refusal, unless memory runs out
+-- a result is these bytes, or their refusal; if memory runs out, nothing is said
 abbrev pub Lends : Result (List ℕ) Fault → Result Lent Halt → Type 0
 Lends wanted (Ok l) = wanted ≡ Ok (lent_bytes l)
 Lends wanted (Err (halt.Refused f)) = wanted ≡ Err f

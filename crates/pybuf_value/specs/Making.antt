@@ -1,4 +1,4 @@
--- Values made of numbers that may not be given, and numbers of values.
+-- Values that are made from numbers, some of which may be missing, and the numbers of values.
 use Rattle.std.specs.Prelude.{◌==◌, ℕ, ℤ, not, List, [], ◌∷◌, length, Option, Some, None, Result, Ok}
 use Rattle.pybuf_value.specs.declared.faults.Fault.{Fault}
 use Rattle.pybuf_value.specs.declared.faults.Fault.TheVariants as fault
@@ -10,7 +10,7 @@ use Rattle.pybuf_value.specs.declared.values.Item.{Item}
 use Rattle.pybuf_value.specs.declared.values.Item.TheVariants as item
 use Rattle.pybuf_value.specs.declared.values.PySlice.{PySlice}
 
--- a bound of a slice, which may not be written
+-- a bound of a slice, which may be missing
 abbrev pub bound_of : Option ℤ → Scalar
 bound_of None = scalar.None
 bound_of (Some number) = scalar.Int number
@@ -19,7 +19,7 @@ bound_of (Some number) = scalar.Int number
 abbrev pub slice_of : Option ℤ → Option ℤ → Option ℤ → PySlice
 slice_of start stop step = record { start = bound_of start; stop = bound_of stop; step = bound_of step }
 
--- the numbers that values are; the first that is none decides
+-- the numbers that values are; the first value that isn't a number is refused
 abbrev pub numbers_in : List Scalar → Result (List ℤ) Fault
 numbers_in [] = Ok []
 numbers_in (s ∷ rest) = do
@@ -27,7 +27,7 @@ numbers_in (s ∷ rest) = do
   numbers ← numbers_in rest
   Ok (number ∷ numbers)
 
--- as many numbers as are asked for
+-- the same, if there are as many values as are asked for
 abbrev pub so_many_numbers : ℕ → List Scalar → Result (List ℤ) Fault
 so_many_numbers count values = do
   _ ← unless (not (length values == count)) fault.Value

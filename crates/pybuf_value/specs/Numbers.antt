@@ -24,7 +24,7 @@ abbrev pub is_word : ℤ → Bool
 is_word (pos n) = nat_lt n (2 ^ 63)
 is_word (negsuc n) = nat_lt n (2 ^ 63)
 
--- the number where it is a word, else the fault
+-- the number if it is a word, else the fault
 abbrev pub fitted_number : Fault → ℤ → Result ℤ Fault
 fitted_number f n = if is_word n then Ok n else Err f
 
@@ -34,12 +34,12 @@ count_in v = do
   n ← number_of v
   fitted_number fault.Overflow n
 
--- the same, and a number where none is given
+-- the same, or another number if no value is given
 abbrev pub count_or : ℤ → Option Value → Result ℤ Fault
 count_or absent None = Ok absent
 count_or absent (Some v) = count_in v
 
--- how many times something is repeated: not at all for a negative number
+-- how many times something is repeated: a negative number repeats it no times
 abbrev pub times : ℤ → ℕ
 times (pos n) = n
 times (negsuc n) = 0
@@ -49,7 +49,7 @@ abbrev pub byte_of : ℤ → Result ℕ Fault
 byte_of (pos n) = if nat_lt n 256 then Ok n else Err fault.Value
 byte_of (negsuc n) = Err fault.Value
 
--- the byte that a value stands for: a number first, then its range
+-- the byte that a value stands for: the value must be a number, and then the number must be in range
 abbrev pub byte_in : Value → Result ℕ Fault
 byte_in v = do
   n ← number_of v

@@ -12,15 +12,15 @@ use Rattle.pybuf_value.specs.declared.values.Scalar.TheVariants as scalar
 use Rattle.pybuf_value.specs.declared.values.CompareOp.{CompareOp}
 use Rattle.pybuf_value.specs.declared.values.CompareOp.TheVariants as op
 
--- The order of two lists of bytes: the first bytes that differ decide, and of two lists that don't
--- differ so far the shorter one is less.
+-- The order of two lists of bytes: the first bytes that differ decide. If one list begins with the whole of the other,
+-- the shorter one is less.
 abbrev pub order_of : List ℕ → List ℕ → Ordering
 order_of [] [] = Equal
 order_of [] (y ∷ ys) = Less
 order_of (x ∷ xs) [] = Greater
 order_of (x ∷ xs) (y ∷ ys) = if nat_lt x y then Less else if x == y then order_of xs ys else Greater
 
--- what an operator answers of two values in an order
+-- what an operator answers if two values stand in this order
 abbrev pub answers : CompareOp → Ordering → Bool
 answers op.Eq order = is_eq order
 answers op.Ne order = not (is_eq order)
@@ -29,14 +29,14 @@ answers op.Le order = is_le order
 answers op.Gt order = is_gt order
 answers op.Ge order = is_ge order
 
--- the operators that ask for an order
+-- whether an operator asks for an order
 abbrev pub is_order : CompareOp → Bool
 is_order op.Eq = false
 is_order op.Ne = false
 is_order _ = true
 
--- The order of two values without parts: two numbers, where a truth value counts as 0 or 1, two bytes
--- values and two texts have one, and no other two.
+-- The order of two values without parts. Two numbers have one, and a truth value counts as the number 0 or 1. Two bytes
+-- values have one, and so have two texts. No other two values have one.
 abbrev pub order_of_scalars : Scalar → Scalar → Result Ordering Fault
 order_of_scalars (scalar.Text left) (scalar.Text right) = Ok (order_of left right)
 order_of_scalars (scalar.Bytes left) (scalar.Bytes right) = Ok (order_of left right)

@@ -4,11 +4,11 @@ use Rattle.std.specs.Str.{byte}
 use Rattle.std.specs.List.{flat_map, list_any}
 use Rattle.hex.specs.Hex.{lower_digits}
 
--- the quote round bytes: a double one where they hold a single quote and no double one
+-- the quote that stands round bytes: a double one if they hold a single quote and no double one, else a single one
 abbrev pub quote_of : List ℕ → ℕ
 quote_of bytes = if list_any (λ b. b == byte "'") bytes && not (list_any (λ b. b == byte "\"") bytes) then byte "\"" else byte "'"
 
--- whether a byte stands between such quotes as it is
+-- whether a byte stands between quotes of this kind as it is
 abbrev pub is_plain : ℕ → ℕ → Bool
 is_plain quote b = nat_le 32 b && nat_le b 126 && not (b == quote) && not (b == byte "\\")
 
@@ -16,7 +16,7 @@ is_plain quote b = nat_le 32 b && nat_le b 126 && not (b == quote) && not (b == 
 abbrev pub digits_of : ℕ → List ℕ
 digits_of b = slice_index lower_digits (b / 16) ∷ slice_index lower_digits (b % 16) ∷ []
 
--- a byte between such quotes
+-- how a byte is written between quotes of this kind
 abbrev pub escaped_byte : ℕ → ℕ → List ℕ
 escaped_byte quote b =
     if b == quote then codes "\\" ++ b ∷ []
@@ -31,6 +31,6 @@ escaped_byte quote b =
 abbrev pub quoted_text : List ℕ → List ℕ
 quoted_text bytes = quote_of bytes ∷ flat_map (escaped_byte (quote_of bytes)) bytes ++ quote_of bytes ∷ []
 
--- bytes between quotes, after one text and before another
+-- bytes between quotes, with one text before them and another behind them
 abbrev pub repr_of : List ℕ → List ℕ → List ℕ → List ℕ
 repr_of before bytes after = before ++ quoted_text bytes ++ after

@@ -7,18 +7,18 @@ abbrev pub ◌>>=◌ : {A B : Type 0} → Result A Fault → (A → Result B Fau
 (Ok x) >>= f = f x
 (Err e) >>= f = Err e
 
--- refused where the test holds
+-- refuses with the fault if the test holds
 abbrev pub unless : Bool → Fault → Result Bool Fault
 unless true f = Err f
 unless false f = Ok true
 
--- what holds of a result that is not refused
+-- a property holds of a result, unless it is a refusal
 abbrev pub IfDone : {B : Type 0} → (B → Type 0) → Result B Fault → Type 0
 IfDone P (Ok x) = P x
 IfDone P (Err f) = Unit {0}
 
--- A chain of checks leads to what holds after its last step. (A law of `>>=`, which proofs about rows
--- cite; it stands here since no contract can speak of every `P`.)
+-- If each step of a chain of checks leads to a property, so does the chain. (This is a law of `>>=` that proofs about
+-- commands cite. It stands here since no contract can speak of every `P`.)
 pub done_bind : {A B : Type 0} (P : B → Type 0) (r : Result A Fault) (f : A → Result B Fault) → ((a : A) → r ≡ Ok a → IfDone P (f a)) → IfDone P (r >>= f)
 done_bind P (Ok a) f after = after a refl
 done_bind P (Err e) f after = tt

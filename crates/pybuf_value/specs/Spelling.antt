@@ -23,7 +23,7 @@ truth_text false = codes "False"
 abbrev pub handle_text : ℕ → List ℕ
 handle_text handle = byte "h" ∷ decimal handle
 
--- a value without parts, by how a handle is written
+-- the text of a value without parts, if `name` writes a handle
 abbrev pub scalar_text : (ℕ → List ℕ) → Scalar → List ℕ
 scalar_text name scalar.None = codes "None"
 scalar_text name (scalar.Bool truth) = truth_text truth
@@ -33,17 +33,17 @@ scalar_text name (scalar.Bytes bytes) = bytes_text bytes
 scalar_text name scalar.Ellipsis = codes "Ellipsis"
 scalar_text name (scalar.Handle handle) = name handle
 
--- a part of a tuple or a list after the first, by the text of a part
+-- the text of each part of a tuple or a list after the first, if `text` writes a part
 abbrev pub next_part_text : {A : Type 0} → (A → List ℕ) → A → List ℕ
 next_part_text text part = codes ", " ++ text part
 
--- a tuple by the text of a part: one of a single part has a comma after it
+-- the text of a tuple, if `text` writes a part; a tuple with a single part has a comma after it
 abbrev pub tuple_text : {A : Type 0} → (A → List ℕ) → List A → List ℕ
 tuple_text text [] = codes "()"
 tuple_text text (part ∷ []) = codes "(" ++ text part ++ codes ",)"
 tuple_text text (part ∷ next ∷ more) = codes "(" ++ text part ++ flat_map (next_part_text text) (next ∷ more) ++ codes ")"
 
--- a list by the text of a part
+-- the text of a list, if `text` writes a part
 abbrev pub list_text : {A : Type 0} → (A → List ℕ) → List A → List ℕ
 list_text text [] = codes "[]"
 list_text text (part ∷ more) = codes "[" ++ text part ++ flat_map (next_part_text text) more ++ codes "]"

@@ -14,17 +14,17 @@ pub data Place : Type 0 where
   -- behind the first digit after these, by its value
   digit : ℕ → Place
 
--- a byte before those that are read after it, where they are
+-- a byte before the bytes that are read after it, if those can be read
 abbrev pub with_byte : ℕ → Option (List ℕ) → Option (List ℕ)
 with_byte b None = None
 with_byte b (Some bytes) = Some (b ∷ bytes)
 
--- nothing stands behind the closing quote
+-- nothing may stand behind the closing quote
 abbrev pub closed : List ℕ → Option (List ℕ)
 closed [] = Some []
 closed (b ∷ more) = None
 
--- the byte that a letter, a quote or a backslash behind a backslash stands for
+-- the byte that an escape stands for: a backslash, and behind it a letter, the quote or a backslash
 abbrev pub escape_in : ℕ → ℕ → Option ℕ
 escape_in quote b =
     if b == quote then Some b
@@ -38,7 +38,7 @@ abbrev pub with_escape : Option ℕ → Option (List ℕ) → Option (List ℕ)
 with_escape None bytes = None
 with_escape (Some b) bytes = with_byte b bytes
 
--- what stands from a place on, up to the closing quote at the end, with the escapes undone
+-- the bytes that a text stands for from a place on, with the escapes undone; the closing quote must be its end
 abbrev pub read_from : ℕ → Place → List ℕ → Option (List ℕ)
 read_from quote place [] = None
 read_from quote before (b ∷ text) =
@@ -53,7 +53,7 @@ read_from quote hexadecimal (b ∷ text) =
 read_from quote (digit high) (b ∷ text) =
     if nat_lt (digit_value b) 16 then with_byte (high * 16 + digit_value b) (read_from quote before text) else None
 
--- the bytes that a text between quotes writes
+-- the bytes that a text between quotes stands for
 abbrev pub unquoted : List ℕ → Option (List ℕ)
 unquoted [] = None
 unquoted (quote ∷ text) = if quote == byte "'" || quote == byte "\"" then read_from quote before text else None

@@ -39,7 +39,7 @@ pub(crate) fn hexadecimal(byte: u8) -> [u8; 2]
     ensures ascii { (slice_index result 0 < 128) × (slice_index result 1 < 128) }
 {
     let mut digits = [0; 2];
-    // the room takes the two digits of a byte, so this is no refusal
+    // the room has a place for both digits of a byte, so this is never refused
     let _ = hex::encode_to_slice([byte], &mut digits);
     digits
 }

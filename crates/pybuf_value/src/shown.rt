@@ -117,7 +117,7 @@ impl fmt::Display for Scalar {
 ///
 /// Example: the number 5 is a part that is written as `5`.
 pub trait Shown {
-    // the text of a part
+    // The text that a part is written as.
     ghost text: { Self → List ℕ };
 
     /// Writes the part, as it stands in a tuple or a list.

@@ -110,7 +110,7 @@ fn next(parts: &mut Parts, k: usize) -> Result<LocalReply, Halt>
     Ok(moved_on(parts, k, iterator, item))
 }
 
-// ---- how many are left, and the place that it is moved to
+// ---- how many items are left, and the place that an iterator is moved to
 
 /// The iterator of a number that goes over bytes.
 ///

@@ -26,8 +26,8 @@ use pybuf_value::{
 use std::alloc::Global;
 
 /// Whether so many bytes are whole items of a size.
-// The sizes of most formats are spelled out: by a power of two that is known beforehand a processor divides in a
-// fraction of the time.
+// The sizes of most formats are spelled out. A processor divides much faster by a power of two that is known
+// beforehand.
 #[inline(always)]
 fn are_whole(len: usize, size: usize) -> bool
     requires { 0 < size }

@@ -348,7 +348,8 @@ pub fn put_bytes(parts: &mut Parts, view: usize, slice: &PySlice, bytes: &[u8]) 
 {
     let target = written(parts, view, slice)?;
     let answer = from_bytes(parts, &target, bytes);
-    // by a call, since a layout that ends with its scope spells out how it may be kept
+    // The layout is dropped by a call. If it ended with its scope, the drop would spell out each way in which it may be
+    // kept.
     drop(target);
     answer?;
     Ok(())
@@ -388,7 +389,8 @@ pub fn put_from(
     lender.view(source)?;
     let target = written(parts, view, slice)?;
     let answer = from_view_across(parts, &target, lender, source);
-    // by a call, since a layout that ends with its scope spells out how it may be kept
+    // The layout is dropped by a call. If it ended with its scope, the drop would spell out each way in which it may be
+    // kept.
     drop(target);
     told(answer)
 }
@@ -410,7 +412,8 @@ pub fn put_within(
     parts.view(source)?;
     let target = written(parts, view, slice)?;
     let answer = from_view(parts, &target, source);
-    // by a call, since a layout that ends with its scope spells out how it may be kept
+    // The layout is dropped by a call. If it ended with its scope, the drop would spell out each way in which it may be
+    // kept.
     drop(target);
     told(answer)
 }

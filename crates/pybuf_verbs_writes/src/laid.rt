@@ -29,7 +29,7 @@ fn copy_range(bytes: &mut [u8], range: Range<usize>, content: &[u8], from: usize
     }
     let next = from + (range.end - range.start);
     if next == from + 1 {
-        // one byte costs less by itself than as a run
+        // a single byte is written faster by itself than as a run
         bytes[range.start] = content[from];
         return next;
     }

@@ -36,7 +36,7 @@ impl Write for Tired {
     }
 }
 
-// A call that fails is counted, each time, and so is one that takes nothing of a piece.
+// Each call that fails is counted, and so is a call that takes nothing of a piece.
 #[test]
 fn calls_that_fail_are_counted(rt: HostRuntime) {
     let mut source = ReaderSource::new(Tired { calls: 0 });

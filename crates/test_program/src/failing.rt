@@ -63,8 +63,8 @@ fn run(alloc: Global, read: usize, write: usize) -> Made<Ended> {
     ))
 }
 
-// A source makes a call for each byte, and one that finds the end; a sink makes one for each byte, and what was put before
-// a call that fails is the front of what was due.
+// A source makes a call for each byte, and one more that finds the end. A sink makes a call for each byte. If a call
+// fails, what was put before it is the front of what was due.
 #[test]
 fn devices_fail_at_each_of_their_calls(rt: HostRuntime) -> Result<(), Fail> {
     for call in 0..=INPUT.len() {
@@ -79,7 +79,7 @@ fn devices_fail_at_each_of_their_calls(rt: HostRuntime) -> Result<(), Fail> {
     Ok(())
 }
 
-// Wherever an input is cut, its lines are commands or one of them is told.
+// Wherever an input is cut, either its lines are commands or the program says that one of them isn't.
 #[test]
 fn an_input_is_cut_at_each_place(rt: HostRuntime) -> Result<(), Fail> {
     for place in 0..=HEADER.len() {

@@ -391,7 +391,7 @@ fn given(alloc: Global, handle: Option<u64>, number: Option<i128>) -> Made<Scala
     Ok(values)
 }
 
-// What follows tells of each table the format of the first row that isn't as it says.
+// Each function that follows checks one table. It gives the format of the first row that isn't as the table says.
 
 fn other_numbers(alloc: Global, lender: &SnapList) -> Option<&'static str> {
     for (format, numbers, bytes) in &NUMBERS {

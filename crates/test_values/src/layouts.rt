@@ -65,8 +65,8 @@ const COPIES: [&[(usize, isize)]; 4] = [
     &[(2, -12), (2, 8), (2, 1)],
 ];
 
-// The first two are `memoryview(bytes(6)).cast('H')` and `memoryview(array('h', [0, 0, 0]))` of Python 3, with no
-// `suboffsets`.
+// The first two descriptors are those of `memoryview(bytes(6)).cast('H')` and `memoryview(array('h', [0, 0, 0]))` in
+// Python 3. They have no `suboffsets`.
 #[test]
 fn descriptors_and_copies_have_the_fields_of_python(rt: HostRuntime) -> Result<(), Fail> {
     let alloc = rt.alloc();

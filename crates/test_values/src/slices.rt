@@ -381,7 +381,7 @@ fn tell_edits(told: &mut Vec<u8>, list: &mut Vec<u8>) {
 const REPEATED: [(&[u8], isize); 5] = [
     (b"ab", 3),
     (b"ab", -1),
-    // of no bytes there are none at once, however often they are asked for
+    // if there are no bytes, the answer has none, however often they are repeated
     (b"", isize::MAX),
     (b"", isize::MIN),
     (b"ab", isize::MAX),
@@ -399,8 +399,8 @@ fn tell_repeated(told: &mut Vec<u8>, alloc: Global, list: &mut Vec<u8>, times: i
     }
 }
 
-// The texts are those of Python's lists of the same bytes, and of its `repr`; where one is as long as no memory is, Python
-// has `MemoryError`.
+// The texts are those of Python's lists of the same bytes, and of its `repr`. If a list would be longer than any
+// memory, Python raises `MemoryError`.
 #[test]
 fn lists_are_read_and_edited(rt: HostRuntime) -> Result<(), Fail> {
     let alloc = rt.alloc();

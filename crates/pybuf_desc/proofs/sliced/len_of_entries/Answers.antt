@@ -3,7 +3,7 @@ use Rattle.std.proofs.Math.Nat.{mul-one}
 use Rattle.pybuf_desc.proofs.SliceFacts.{block_size}
 use Rattle.pybuf_desc.proofs.sliced.len_of_entries.Goals as goal
 
--- of as many entries as bytes, each is a byte
+-- if there are as many entries as bytes, each entry is one byte
 one_each : (shape len entry : ℕ) → shape ≡ len → len ≡ shape * entry → 0 < shape → entry ≡ 1
 one_each shape len entry same e some =
     sym (block_size shape entry len e some) ∙ block_size shape 1 len (sym same ∙ sym (mul-one shape)) some
