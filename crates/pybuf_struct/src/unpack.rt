@@ -2,7 +2,7 @@
 ghost use Rattle.std.specs.Prelude.{◌≡◌, ◌+◌, ◌*◌, ◌≤◌, ◌<◌, ◌^◌, ◌++◌, length, map, IfOk, OnOk, IsTrue};
 ghost use Rattle.pybuf_struct.specs.Table.{size_of};
 ghost use Rattle.pybuf_struct.specs.Formats.{span, extent, fields_in_row, fields_of_code, fields_from};
-ghost use Rattle.pybuf_value.specs.Halting.{outcome_of};
+ghost use Rattle.pybuf_value.specs.Halting.{GivesOutcome};
 ghost use Rattle.pybuf_struct.specs.Values.{is_length, pascal_content, value_of, value_in, unpacked_values};
 
 use crate::digits::number;
@@ -120,7 +120,7 @@ impl FormatSpec {
     ///
     /// Example: of `<hI` and `b"\xff\xff\x05\0\0\0"` it gives -1 and 5.
     pub fn unpack(&self, alloc: Global, bytes: &[u8]) -> Tried<ScalarList>
-        ensures { IfOk result (λ o. o ≡ outcome_of (unpacked_values self.now bytes.now)) }
+        ensures { GivesOutcome (unpacked_values self.now bytes.now) result }
     {
         if bytes.len() != self.size() {
             return Ok(Outcome::Refused(Fault::Struct));

@@ -6,14 +6,11 @@ use Rattle.pybuf_value.specs.declared.faults.Fault.{Fault}
 use Rattle.pybuf_value.specs.declared.faults.Outcome.{Outcome}
 use Rattle.pybuf_value.specs.declared.faults.Outcome.TheVariants as outcome
 use Rattle.pybuf_value.specs.declared.halt.Halt.{Halt}
-use Rattle.pybuf_value.specs.declared.halt.Halt.TheVariants as halt
-use Rattle.pybuf_value.specs.Halting.{Gives, outcome_of, given_by, done_by}
+use Rattle.pybuf_value.specs.Halting.{Answered, Gives, outcome_of, given_by, done_by}
 
 -- a result has the items that a definition says, or its refusal, unless memory runs out
 abbrev pub GivesItems : {X : Type 0} → Result (List X) Fault → Result (Vec X) Halt → Type 0
-GivesItems wanted (Ok items) = wanted ≡ Ok items.items
-GivesItems wanted (Err (halt.Refused f)) = wanted ≡ Err f
-GivesItems wanted (Err halt.NoMemory) = Unit {0}
+GivesItems wanted result = Answered result (λ items. items.items) wanted
 
 -- An answer as one result gives what the answer is. (A law of `done_by`, which proofs cite; it stands here
 -- since no contract can speak of every definition.)
