@@ -4,7 +4,7 @@ ghost use Rattle.std.specs.Fn.{FnReturnsAtPair};
 ghost use Rattle.std.specs.Option.{option_copied};
 ghost use Rattle.bstr.specs.Owned.{joined};
 ghost use Rattle.pybuf_value.specs.declared.faults.Fault.{Fault};
-ghost use Rattle.pybuf_value.specs.Halting.{outcome_of, items_of};
+ghost use Rattle.pybuf_value.specs.Halting.{outcome_of, GivesOutcome, GivesOutcomeAs, GivesOutcomeOfBytes};
 ghost use Rattle.pybuf_value.specs.Texts.{fitted};
 ghost use Rattle.pybuf_search.specs.Ends.{without_prefix, without_suffix};
 ghost use Rattle.pybuf_search.specs.Places.{first_place};
@@ -137,7 +137,7 @@ pub trait AnyStr {
     ///
     /// Example: of `b"ab"` and `b"cd"` it gives `b"abcd"`.
     fn py_add(&self, alloc: Global, other: &[u8]) -> Tried<Vec<u8>>
-        ensures { IfOk result (λ outcome. items_of outcome ≡ outcome_of (fitted (bytes self.now ++ other.now))) };
+        ensures { GivesOutcomeOfBytes (fitted (bytes self.now ++ other.now)) result };
 
     /// The parts, with these bytes between each two.
     ///
@@ -145,7 +145,7 @@ pub trait AnyStr {
     ///
     /// Example: of `b", "` and the parts `b"a"` and `b"b"` it gives `b"a, b"`.
     fn py_join(&self, alloc: Global, parts: &ByteLists) -> Tried<Vec<u8>>
-        ensures { IfOk result (λ outcome. items_of outcome ≡ outcome_of (fitted (joined (bytes self.now) parts.now))) };
+        ensures { GivesOutcomeOfBytes (fitted (joined (bytes self.now) parts.now)) result };
 
     /// The parts between the matches of a separator from the left, or without a separator between
     /// runs of blanks, in order; the greatest number of cuts is no bound where it is negative.
@@ -154,7 +154,7 @@ pub trait AnyStr {
     ///
     /// Example: of `b"a,b,c"`, the separator `b","` and at most one cut it gives `b"a"` and `b"b,c"`.
     fn py_split(&self, alloc: Global, options: ByteInnerSplitOptions) -> Tried<ByteLists>
-        ensures { IfOk result (λ outcome. outcome ≡ outcome_of (split_of options.sep options.maxsplit (bytes self.now))) };
+        ensures { GivesOutcome (split_of options.sep options.maxsplit (bytes self.now)) result };
 
     /// The parts between runs of blanks, cut from the left at most so many times, in order; a negative
     /// number is no bound.
@@ -184,7 +184,7 @@ pub trait AnyStr {
         lender: &L,
     ) -> Tried<bool>
         requires { F.IsAlwaysCallable func.now }
-        ensures function { (test : List ℕ → List ℕ → Bool) → IsTestOfTwo (F.post func.now) test → IfOk result (λ outcome. outcome ≡ outcome_of (single_or_any_of (test (bytes self.now)) (L.pairs lender.now) affix.now)) }
+        ensures function { (test : List ℕ → List ℕ → Bool) → IsTestOfTwo (F.post func.now) test → GivesOutcome (single_or_any_of (test (bytes self.now)) (L.pairs lender.now) affix.now) result }
         ensures calls { IfOk result (λ outcome. (answer : Result Bool Fault) × (outcome ≡ outcome_of answer) × IsSingleOrAnyOf (FnReturnsAtPair F.Fn func.now (bytes self.now)) (L.pairs lender.now) affix.now answer) };
 
     /// The bytes without those at both ends that are among `chars`, or are blanks where no `chars`
@@ -229,7 +229,7 @@ pub trait AnyStr {
     ///
     /// Example: of `b"a=b=c"` and `b"="` it gives `b"a"`, `true` and `b"b=c"`.
     fn py_partition(&self, alloc: Global, sub: &PyBytesInner) -> Tried<(Vec<u8>, bool, Vec<u8>)>
-        ensures { IfOk result (λ outcome. parts_answered outcome ≡ outcome_of (partition_by sub.now (bytes self.now))) };
+        ensures { GivesOutcomeAs parts_answered (partition_by sub.now (bytes self.now)) result };
 
     /// The lines, each of which ends with `\n`, `\r` or `\r\n`; the last line may end without one. The
     /// ends are kept if the options say so. There is no empty line behind the last end.
@@ -258,7 +258,7 @@ pub trait AnyStr {
         options: &ByteInnerPaddingOptions,
         lender: &L,
     ) -> Tried<Vec<u8>>
-        ensures { IfOk result (λ outcome. items_of outcome ≡ outcome_of (filled (centered options.now.width) (L.pairs lender.now) options.now.fillchar (bytes self.now))) };
+        ensures { GivesOutcomeOfBytes (filled (centered options.now.width) (L.pairs lender.now) options.now.fillchar (bytes self.now)) result };
 
     /// The bytes on the left of a width, filled up on the right; the bytes where they are long enough.
     ///
@@ -271,7 +271,7 @@ pub trait AnyStr {
         options: &ByteInnerPaddingOptions,
         lender: &L,
     ) -> Tried<Vec<u8>>
-        ensures { IfOk result (λ outcome. items_of outcome ≡ outcome_of (filled (justified_left options.now.width) (L.pairs lender.now) options.now.fillchar (bytes self.now))) };
+        ensures { GivesOutcomeOfBytes (filled (justified_left options.now.width) (L.pairs lender.now) options.now.fillchar (bytes self.now)) result };
 
     /// The bytes on the right of a width, filled up on the left; the bytes where they are long enough.
     ///
@@ -284,7 +284,7 @@ pub trait AnyStr {
         options: &ByteInnerPaddingOptions,
         lender: &L,
     ) -> Tried<Vec<u8>>
-        ensures { IfOk result (λ outcome. items_of outcome ≡ outcome_of (filled (justified_right options.now.width) (L.pairs lender.now) options.now.fillchar (bytes self.now))) };
+        ensures { GivesOutcomeOfBytes (filled (justified_right options.now.width) (L.pairs lender.now) options.now.fillchar (bytes self.now)) result };
 
     /// The bytes with digits `0` before them up to a width, behind one sign that they begin with; the
     /// bytes where they are long enough.

@@ -1,6 +1,6 @@
 //! The arguments of searches and cuts of strings of bytes.
-ghost use Rattle.std.specs.Prelude.{◌≡◌, IfOk};
-ghost use Rattle.pybuf_value.specs.Halting.{Gives, outcome_of};
+ghost use Rattle.std.specs.Prelude.{◌≡◌};
+ghost use Rattle.pybuf_value.specs.Halting.{Gives, GivesOutcomeAs};
 ghost use Rattle.pybuf_bytes.specs.Searching.{search_of, search_answered};
 
 use crate::inner::PyBytesInner;
@@ -53,7 +53,7 @@ impl ByteInnerFindOptions {
     ///
     /// Example: of the number 98 with the start -2 and no end, in 5 bytes, it gives `b"b"` and `3..5`.
     pub fn get_value(self, alloc: Global, len: usize) -> Tried<(Vec<u8>, Range<usize>)>
-        ensures { IfOk result (λ outcome. search_answered outcome ≡ outcome_of (search_of self.sub self.start self.end len)) }
+        ensures { GivesOutcomeAs search_answered (search_of self.sub self.start self.end len) result }
     {
         match tried(search_in(alloc, self, len))? {
             Outcome::Done((needle, range)) => Ok(Outcome::Done((needle.into_vec(), range))),

@@ -1,8 +1,8 @@
 //! Bytes as texts.
-ghost use Rattle.std.specs.Prelude.{◌≡◌, IfOk, MatchResult};
+ghost use Rattle.std.specs.Prelude.{◌≡◌};
 ghost use Rattle.std.specs.Option.{option_copied};
 ghost use Rattle.std.specs.Str.{is_utf8};
-ghost use Rattle.pybuf_value.specs.Halting.{Gives, outcome_of};
+ghost use Rattle.pybuf_value.specs.Halting.{Gives, GivesOutcome};
 ghost use Rattle.pybuf_bytes.specs.Shaping as spec;
 
 use crate::options::{is_ascii_name, is_strict, is_utf8_name};
@@ -85,7 +85,7 @@ pub fn decode_text(
     encoding: Option<&Text>,
     errors: Option<&Text>,
 ) -> Tried<Text>
-    ensures { IfOk result (λ outcome. outcome ≡ outcome_of (spec.decoded bytes.now (option_copied encoding.entry) (option_copied errors.entry))) }
+    ensures { GivesOutcome (spec.decoded bytes.now (option_copied encoding.entry) (option_copied errors.entry)) result }
 {
     tried(decoded(alloc, bytes, encoding, errors))
 }
@@ -96,7 +96,7 @@ pub fn decode_text(
 ///
 /// Example: of `b"ab"` and the codec `utf-8` it gives the text `ab`.
 pub fn bytes_decode(alloc: Global, bytes: &[u8], args: &DecodeArgs) -> Tried<Text>
-    ensures { IfOk result (λ outcome. outcome ≡ outcome_of (spec.decoded bytes.now args.now.encoding args.now.errors)) }
+    ensures { GivesOutcome (spec.decoded bytes.now args.now.encoding args.now.errors) result }
 {
     decode_text(alloc, bytes, args.encoding.as_ref(), args.errors.as_ref())
 }

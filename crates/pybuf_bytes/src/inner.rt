@@ -1,6 +1,6 @@
 //! A string of bytes.
-ghost use Rattle.std.specs.Prelude.{◌≡◌, ◌==◌, ◌<◌, ◌^◌, ◌++◌, List, [], ℕ, length, codes, IfOk};
-ghost use Rattle.pybuf_value.specs.Halting.{outcome_of};
+ghost use Rattle.std.specs.Prelude.{◌≡◌, ◌==◌, ◌<◌, ◌^◌, ◌++◌, List, [], ℕ, length, codes};
+ghost use Rattle.pybuf_value.specs.Halting.{GivesOutcome};
 ghost use Rattle.pybuf_value.specs.Order.{order_of, answers};
 ghost use Rattle.pybuf_value.specs.Texts.{fitted};
 ghost use Rattle.pybuf_value.specs.Quotes.{repr_of};
@@ -103,7 +103,7 @@ impl PyBytesInner {
     ///
     /// Example: of the bytes 97 and 0 it gives the text `b'a\x00'`.
     pub fn repr_bytes(&self, alloc: Global) -> Tried<Text>
-        ensures { IfOk result (λ outcome. outcome ≡ outcome_of (fitted (repr_of (codes "b") self.now []))) }
+        ensures { GivesOutcome (fitted (repr_of (codes "b") self.now [])) result }
     {
         repr_text(alloc, b"b", self.bytes.as_slice(), b"")
     }
@@ -115,7 +115,7 @@ impl PyBytesInner {
     ///
     /// Example: of `b"ab"` and `bytearray` it gives the text `bytearray(b'ab')`.
     pub fn repr_with_name(&self, alloc: Global, class_name: &Text) -> Tried<Text>
-        ensures { IfOk result (λ outcome. outcome ≡ outcome_of (fitted (repr_of (class_name.now ++ codes "(b") self.now (codes ")")))) }
+        ensures { GivesOutcome (fitted (repr_of (class_name.now ++ codes "(b") self.now (codes ")"))) result }
     {
         named_repr_text(alloc, class_name.as_str(), self.bytes.as_slice())
     }

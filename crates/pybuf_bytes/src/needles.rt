@@ -1,6 +1,6 @@
 //! What is searched for.
-ghost use Rattle.std.specs.Prelude.{◌≡◌, IfOk};
-ghost use Rattle.pybuf_value.specs.Halting.{Gives, outcome_of};
+ghost use Rattle.std.specs.Prelude.{◌≡◌};
+ghost use Rattle.pybuf_value.specs.Halting.{Gives, GivesOutcome};
 ghost use Rattle.pybuf_bytes.specs.Needles as spec;
 
 use crate::inner::PyBytesInner;
@@ -48,7 +48,7 @@ impl Needle {
     ///
     /// Example: of the value 98 it is `Needle::Number(98)`, and of 256 it is refused with `ValueError`.
     pub fn try_from_value<L: Lender>(alloc: Global, value: &Value, lender: &L) -> Tried<Needle>
-        ensures { IfOk result (λ outcome. outcome ≡ outcome_of (spec.needle_in (L.pairs lender.now) value.now)) }
+        ensures { GivesOutcome (spec.needle_in (L.pairs lender.now) value.now) result }
     {
         tried(needle_in(alloc, value, lender))
     }

@@ -1,8 +1,8 @@
 //! The bytes that options ask for.
-ghost use Rattle.std.specs.Prelude.{◌≡◌, ◌<◌, ◌^◌, Ok, Err, IfOk, MatchResult, pos};
+ghost use Rattle.std.specs.Prelude.{◌≡◌, ◌<◌, ◌^◌, pos};
 ghost use Rattle.std.specs.Option.{option_copied};
 ghost use Rattle.std.specs.Str.{bytes_eq};
-ghost use Rattle.pybuf_value.specs.Halting.{Gives, outcome_of};
+ghost use Rattle.pybuf_value.specs.Halting.{Gives, GivesLentOption, GivesOutcome};
 ghost use Rattle.pybuf_command.specs.declared.options.ByteInnerNewOptions.{ByteInnerNewOptions};
 ghost use Rattle.pybuf_bytes.specs.Options as spec;
 
@@ -99,7 +99,7 @@ fn encoded(
 
 /// The text of an argument that may not be given.
 fn text_given(value: &Option<Value>) -> Result<Option<&Text>, Fault>
-    ensures { MatchResult result (λ text. spec.text_given value.now ≡ Ok (option_copied text)) (λ fault. spec.text_given value.now ≡ Err fault) }
+    ensures { GivesLentOption (spec.text_given value.now) result }
 {
     match value {
         None => Ok(None),
@@ -148,7 +148,7 @@ fn bytes_answered<L: Lender>(
     options: &ByteInnerNewOptions,
     lender: &L,
 ) -> Tried<PyBytesInner>
-    ensures { IfOk result (λ outcome. outcome ≡ outcome_of (spec.bytes_of_options (L.pairs lender.now) options.now.source options.now.encoding options.now.errors)) }
+    ensures { GivesOutcome (spec.bytes_of_options (L.pairs lender.now) options.now.source options.now.encoding options.now.errors) result }
 {
     tried(bytes_of_options(alloc, options, lender))
 }
@@ -173,7 +173,7 @@ pub trait NewOptions {
     ///
     /// Example: of the text `é` with the encoding `utf-8` it gives `b"\xc3\xa9"`.
     fn get_bytes<L: Lender>(&self, alloc: Global, lender: &L) -> Tried<PyBytesInner>
-        ensures { IfOk result (λ outcome. outcome ≡ outcome_of (spec.bytes_of_options (L.pairs lender.now) (options self.now).source (options self.now).encoding (options self.now).errors)) };
+        ensures { GivesOutcome (spec.bytes_of_options (L.pairs lender.now) (options self.now).source (options self.now).encoding (options self.now).errors) result };
 
     /// The bytes that the options ask for, for Python's `bytearray`, which takes the same arguments as
     /// `bytes`.
@@ -182,7 +182,7 @@ pub trait NewOptions {
     ///
     /// Example: of the source 3 alone it gives `b"\0\0\0"`.
     fn get_bytearray_inner<L: Lender>(&self, alloc: Global, lender: &L) -> Tried<PyBytesInner>
-        ensures { IfOk result (λ outcome. outcome ≡ outcome_of (spec.bytes_of_options (L.pairs lender.now) (options self.now).source (options self.now).encoding (options self.now).errors)) };
+        ensures { GivesOutcome (spec.bytes_of_options (L.pairs lender.now) (options self.now).source (options self.now).encoding (options self.now).errors) result };
 }
 
 impl NewOptions for ByteInnerNewOptions {

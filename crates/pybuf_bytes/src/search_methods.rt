@@ -3,7 +3,7 @@ ghost use Rattle.std.specs.Prelude.{◌≡◌, ◌≤◌, ◌++◌, ℕ, List, O
 ghost use Rattle.std.specs.Borrow.{Bor};
 ghost use Rattle.std.specs.Fn.{FnReturnsAtPair};
 ghost use Rattle.bstr.specs.Owned.{joined};
-ghost use Rattle.pybuf_value.specs.Halting.{outcome_of, refusal_of, items_of};
+ghost use Rattle.pybuf_value.specs.Halting.{refusal_of, GivesOutcome, GivesOutcomeAs, GivesOutcomeOfBytes};
 ghost use Rattle.pybuf_value.specs.Texts.{fitted};
 ghost use Rattle.pybuf_search.specs.Ends.{without_prefix, without_suffix};
 ghost use Rattle.pybuf_search.specs.Ranges.{IsSearch};
@@ -26,7 +26,7 @@ impl PyBytesInner {
     ///
     /// Example: of `b"ab"` and `b"cd"` it gives `b"abcd"`.
     pub fn add(&self, alloc: Global, other: &[u8]) -> Tried<Vec<u8>>
-        ensures { IfOk result (λ outcome. items_of outcome ≡ outcome_of (fitted (self.now ++ other.now))) }
+        ensures { GivesOutcomeOfBytes (fitted (self.now ++ other.now)) result }
     {
         pybuf_search::added(alloc, self.as_bytes(), other)
     }
@@ -40,7 +40,7 @@ impl PyBytesInner {
     ///
     /// Example: of `b"ab"` and the bytes value `b"cd"` it gives `b"abcd"`, and of the number 5 it is refused with `TypeError`.
     pub fn concat<L: Lender>(&self, alloc: Global, other: &Value, lender: &L) -> Tried<Vec<u8>>
-        ensures { IfOk result (λ outcome. items_of outcome ≡ outcome_of (spec.concat_of (L.pairs lender.now) other.now self.now)) }
+        ensures { GivesOutcomeOfBytes (spec.concat_of (L.pairs lender.now) other.now self.now) result }
     {
         concat_with(alloc, self.as_bytes(), other, lender)
     }
@@ -52,7 +52,7 @@ impl PyBytesInner {
     ///
     /// Example: of `b"ab"` and 3 it gives `b"ababab"`, and of -1 it gives `b""`.
     pub fn mul(&self, alloc: Global, n: isize) -> Tried<Vec<u8>>
-        ensures { IfOk result (λ outcome. items_of outcome ≡ outcome_of (spec.repeated_of n self.now)) }
+        ensures { GivesOutcomeOfBytes (spec.repeated_of n self.now) result }
     {
         pybuf_search::repeated(alloc, self.as_bytes(), n)
     }
@@ -65,7 +65,7 @@ impl PyBytesInner {
     ///
     /// Example: with 2 it makes `b"abab"` of `b"ab"`.
     pub fn imul(&mut self, alloc: Global, n: isize) -> Tried<()>
-        ensures answer { IfOk result (λ outcome. outcome ≡ outcome_of (refusal_of (spec.repeated_of n self.old))) }
+        ensures answer { GivesOutcome (refusal_of (spec.repeated_of n self.old)) result }
         ensures bytes { OnOk result (self.new ≡ spec.or_before self.old (spec.repeated_of n self.old)) }
         ensures memory { OnErr result (self.new ≡ self.old) }
     {
@@ -104,7 +104,7 @@ impl PyBytesInner {
     ///
     /// Example: of `b"aaaa"` and the needle `b"aa"` without bounds it gives 2.
     pub fn count(&self, alloc: Global, options: ByteInnerFindOptions) -> Tried<usize>
-        ensures { IfOk result (λ outcome. outcome ≡ outcome_of (spec.count_of options.sub options.start options.end self.now)) }
+        ensures { GivesOutcome (spec.count_of options.sub options.start options.end self.now) result }
     {
         count_between(alloc, self.as_bytes(), options)
     }
@@ -124,7 +124,7 @@ impl PyBytesInner {
     ) -> Tried<Option<usize>>
         requires callable { F.IsAlwaysCallable find }
         requires inside { (part : Bor (List ℕ)) (needle : Bor (List ℕ)) (place : ℕ) → F.post find part needle (Some place) → place ≤ length part.now }
-        ensures function { (search : List ℕ → List ℕ → Option ℕ) → IsSearch (F.post find) search → IfOk result (λ outcome. outcome ≡ outcome_of (spec.find_of search options.sub options.start options.end self.now)) }
+        ensures function { (search : List ℕ → List ℕ → Option ℕ) → IsSearch (F.post find) search → GivesOutcome (spec.find_of search options.sub options.start options.end self.now) result }
         ensures call { IfOk result (λ outcome. spec.IsFound (FnReturnsAtPair F.Fn find) options.sub options.start options.end self.now outcome) }
     {
         find_between(alloc, self.as_bytes(), options, find)
@@ -138,7 +138,7 @@ impl PyBytesInner {
     ///
     /// Example: of `b"a,b,c"`, the separator `b","` and at most one cut it gives `b"a"` and `b"b,c"`.
     pub fn split(&self, alloc: Global, options: ByteInnerSplitOptions) -> Tried<ByteLists>
-        ensures { IfOk result (λ outcome. outcome ≡ outcome_of (spec.split_of options.sep options.maxsplit self.now)) }
+        ensures { GivesOutcome (spec.split_of options.sep options.maxsplit self.now) result }
     {
         split_at(alloc, self.as_bytes(), options)
     }
@@ -151,7 +151,7 @@ impl PyBytesInner {
     ///
     /// Example: of `b"a,b,c"`, the separator `b","` and at most one cut it gives `b"a,b"` and `b"c"`.
     pub fn rsplit(&self, alloc: Global, options: ByteInnerSplitOptions) -> Tried<ByteLists>
-        ensures { IfOk result (λ outcome. outcome ≡ outcome_of (spec.rsplit_of options.sep options.maxsplit self.now)) }
+        ensures { GivesOutcome (spec.rsplit_of options.sep options.maxsplit self.now) result }
     {
         rsplit_at(alloc, self.as_bytes(), options)
     }
@@ -164,7 +164,7 @@ impl PyBytesInner {
     ///
     /// Example: of `b"a=b=c"` and `b"="` it gives `b"a"`, `true` and `b"b=c"`.
     pub fn partition(&self, alloc: Global, sub: &PyBytesInner) -> Tried<(Vec<u8>, bool, Vec<u8>)>
-        ensures { IfOk result (λ outcome. spec.parts_answered outcome ≡ outcome_of (spec.partition_by sub.now self.now)) }
+        ensures { GivesOutcomeAs spec.parts_answered (spec.partition_by sub.now self.now) result }
     {
         partition_at(alloc, self.as_bytes(), sub.as_bytes())
     }
@@ -177,7 +177,7 @@ impl PyBytesInner {
     ///
     /// Example: of `b"a=b=c"` and `b"="` it gives `b"c"`, `true` and `b"a=b"`.
     pub fn rpartition(&self, alloc: Global, sub: &PyBytesInner) -> Tried<(Vec<u8>, bool, Vec<u8>)>
-        ensures { IfOk result (λ outcome. spec.parts_answered outcome ≡ outcome_of (spec.rpartition_by sub.now self.now)) }
+        ensures { GivesOutcomeAs spec.parts_answered (spec.rpartition_by sub.now self.now) result }
     {
         rpartition_at(alloc, self.as_bytes(), sub.as_bytes())
     }
@@ -189,7 +189,7 @@ impl PyBytesInner {
     ///
     /// Example: of the string `b", "` and the parts `b"a"` and `b"b"` it gives `b"a, b"`.
     pub fn join(&self, alloc: Global, parts: &ByteLists) -> Tried<Vec<u8>>
-        ensures { IfOk result (λ outcome. items_of outcome ≡ outcome_of (fitted (joined self.now parts.now))) }
+        ensures { GivesOutcomeOfBytes (fitted (joined self.now parts.now)) result }
     {
         pybuf_search::joined(alloc, self.as_bytes(), parts.as_slice())
     }

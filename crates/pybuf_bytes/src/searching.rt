@@ -2,7 +2,7 @@
 ghost use Rattle.std.specs.Prelude.{◌≡◌, ◌≤◌, ℕ, List, Option, Some, IfOk, length};
 ghost use Rattle.std.specs.Borrow.{Bor};
 ghost use Rattle.std.specs.Fn.{FnReturnsAtPair};
-ghost use Rattle.pybuf_value.specs.Halting.{outcome_of, items_of};
+ghost use Rattle.pybuf_value.specs.Halting.{GivesOutcome, GivesOutcomeAs, GivesOutcomeOfBytes};
 ghost use Rattle.pybuf_search.specs.Ranges.{IsSearch};
 ghost use Rattle.pybuf_bytes.specs.Searching as spec;
 
@@ -40,7 +40,7 @@ pub fn contains_needle(bytes: &[u8], needle: &Needle) -> Result<bool, Fault>
 ///
 /// Example: of `b"aaaa"` and the needle `b"aa"` without bounds it gives 2.
 pub fn count_between(alloc: Global, bytes: &[u8], options: ByteInnerFindOptions) -> Tried<usize>
-    ensures { IfOk result (λ outcome. outcome ≡ outcome_of (spec.count_of options.sub options.start options.end bytes.now)) }
+    ensures { GivesOutcome (spec.count_of options.sub options.start options.end bytes.now) result }
 {
     match options.get_value(alloc, bytes.len())? {
         Outcome::Refused(fault) => Ok(Outcome::Refused(fault)),
@@ -65,7 +65,7 @@ pub fn find_between<F: Fn(&[u8], &[u8]) -> Option<usize>>(
 ) -> Tried<Option<usize>>
     requires callable { F.IsAlwaysCallable find }
     requires inside { (part : Bor (List ℕ)) (needle : Bor (List ℕ)) (place : ℕ) → F.post find part needle (Some place) → place ≤ length part.now }
-    ensures function { (search : List ℕ → List ℕ → Option ℕ) → IsSearch (F.post find) search → IfOk result (λ outcome. outcome ≡ outcome_of (spec.find_of search options.sub options.start options.end bytes.now)) }
+    ensures function { (search : List ℕ → List ℕ → Option ℕ) → IsSearch (F.post find) search → GivesOutcome (spec.find_of search options.sub options.start options.end bytes.now) result }
     ensures call { IfOk result (λ outcome. spec.IsFound (FnReturnsAtPair F.Fn find) options.sub options.start options.end bytes.now outcome) }
 {
     match options.get_value(alloc, bytes.len())? {
@@ -102,7 +102,7 @@ pub fn partition_at(
     bytes: &[u8],
     separator: &[u8],
 ) -> Tried<(Vec<u8>, bool, Vec<u8>)>
-    ensures { IfOk result (λ outcome. spec.parts_answered outcome ≡ outcome_of (spec.partition_by separator.now bytes.now)) }
+    ensures { GivesOutcomeAs spec.parts_answered (spec.partition_by separator.now bytes.now) result }
 {
     if separator.is_empty() {
         return Ok(Outcome::Refused(Fault::Value));
@@ -124,7 +124,7 @@ pub fn rpartition_at(
     bytes: &[u8],
     separator: &[u8],
 ) -> Tried<(Vec<u8>, bool, Vec<u8>)>
-    ensures { IfOk result (λ outcome. spec.parts_answered outcome ≡ outcome_of (spec.rpartition_by separator.now bytes.now)) }
+    ensures { GivesOutcomeAs spec.parts_answered (spec.rpartition_by separator.now bytes.now) result }
 {
     if separator.is_empty() {
         return Ok(Outcome::Refused(Fault::Value));
@@ -148,7 +148,7 @@ pub fn concat_with<L: Lender>(
     other: &Value,
     lender: &L,
 ) -> Tried<Vec<u8>>
-    ensures { IfOk result (λ outcome. items_of outcome ≡ outcome_of (spec.concat_of (L.pairs lender.now) other.now bytes.now)) }
+    ensures { GivesOutcomeOfBytes (spec.concat_of (L.pairs lender.now) other.now bytes.now) result }
 {
     let Value::One(scalar) = other else {
         return Ok(Outcome::Refused(Fault::Kind));
@@ -167,7 +167,7 @@ pub fn concat_with<L: Lender>(
 ///
 /// Example: of `b" a  b "` without a separator or a bound it gives `b"a"` and `b"b"`.
 pub fn split_at(alloc: Global, bytes: &[u8], options: ByteInnerSplitOptions) -> Tried<ByteLists>
-    ensures { IfOk result (λ outcome. outcome ≡ outcome_of (spec.split_of options.sep options.maxsplit bytes.now)) }
+    ensures { GivesOutcome (spec.split_of options.sep options.maxsplit bytes.now) result }
 {
     match options.get_value() {
         Err(fault) => Ok(Outcome::Refused(fault)),
@@ -191,7 +191,7 @@ pub fn split_at(alloc: Global, bytes: &[u8], options: ByteInnerSplitOptions) -> 
 ///
 /// Example: of `b"a,b,c"`, the separator `b","` and at most one cut it gives `b"a,b"` and `b"c"`.
 pub fn rsplit_at(alloc: Global, bytes: &[u8], options: ByteInnerSplitOptions) -> Tried<ByteLists>
-    ensures { IfOk result (λ outcome. outcome ≡ outcome_of (spec.rsplit_of options.sep options.maxsplit bytes.now)) }
+    ensures { GivesOutcome (spec.rsplit_of options.sep options.maxsplit bytes.now) result }
 {
     match options.get_value() {
         Err(fault) => Ok(Outcome::Refused(fault)),

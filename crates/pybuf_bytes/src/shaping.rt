@@ -1,7 +1,7 @@
 //! Strings of bytes in other shapes.
 ghost use Rattle.std.specs.Prelude.{◌≡◌, IfOk, length};
 ghost use Rattle.std.specs.Option.{option_copied};
-ghost use Rattle.pybuf_value.specs.Halting.{outcome_of, items_of};
+ghost use Rattle.pybuf_value.specs.Halting.{GivesOutcome, GivesOutcomeOfBytes};
 ghost use Rattle.pybuf_shaping.specs.Arguments.{filled, translation};
 ghost use Rattle.pybuf_shaping.specs.Digits.{hex_text, bytes_of_hex};
 ghost use Rattle.pybuf_shaping.specs.Padding.{centered, justified_left, justified_right, zero_filled};
@@ -32,7 +32,7 @@ pub fn bytes_to_hex(
     sep: Option<&[u8]>,
     bytes_per_sep: Option<isize>,
 ) -> Tried<Text>
-    ensures { IfOk result (λ outcome. outcome ≡ outcome_of (hex_text (option_copied sep.entry) (group_given bytes_per_sep) bytes.now)) }
+    ensures { GivesOutcome (hex_text (option_copied sep.entry) (group_given bytes_per_sep) bytes.now) result }
 {
     pybuf_shaping::hex_text(alloc, bytes, sep, bytes_per_sep.unwrap_or(1))
 }
@@ -47,7 +47,7 @@ impl PyBytesInner {
         sep: Option<&[u8]>,
         bytes_per_sep: Option<isize>,
     ) -> Tried<Text>
-        ensures { IfOk result (λ outcome. outcome ≡ outcome_of (hex_text (option_copied sep.entry) (group_given bytes_per_sep) self.now)) }
+        ensures { GivesOutcome (hex_text (option_copied sep.entry) (group_given bytes_per_sep) self.now) result }
     {
         bytes_to_hex(alloc, self.as_bytes(), sep, bytes_per_sep)
     }
@@ -59,7 +59,7 @@ impl PyBytesInner {
     ///
     /// Example: of `b"01 aB"` it gives `b"\x01\xab"`, and of `b"1"` it is refused with `ValueError`.
     pub fn fromhex(alloc: Global, text: &[u8]) -> Tried<Vec<u8>>
-        ensures { IfOk result (λ outcome. items_of outcome ≡ outcome_of (bytes_of_hex text.now)) }
+        ensures { GivesOutcomeOfBytes (bytes_of_hex text.now) result }
     {
         as_vec(pybuf_shaping::bytes_of_hex(alloc, text))
     }
@@ -76,7 +76,7 @@ impl PyBytesInner {
         options: &ByteInnerTranslateOptions,
         lender: &L,
     ) -> Tried<Vec<u8>>
-        ensures { IfOk result (λ outcome. items_of outcome ≡ outcome_of (translation (L.pairs lender.now) options.now.table options.now.delete self.now)) }
+        ensures { GivesOutcomeOfBytes (translation (L.pairs lender.now) options.now.table options.now.delete self.now) result }
     {
         as_vec(pybuf_shaping::translate_by(
             alloc,
@@ -96,7 +96,7 @@ impl PyBytesInner {
     ///
     /// Example: of `b"ab"` and `b"xy"` it gives a table whose bytes at 97, 98 and 99 are `b"xyc"`.
     pub fn maketrans(alloc: Global, from: &PyBytesInner, to: &PyBytesInner) -> Tried<Vec<u8>>
-        ensures { IfOk result (λ outcome. items_of outcome ≡ outcome_of (table_of from.now to.now)) }
+        ensures { GivesOutcomeOfBytes (table_of from.now to.now) result }
     {
         as_vec(pybuf_shaping::make_table(alloc, from.as_bytes(), to.as_bytes()))
     }
@@ -114,7 +114,7 @@ impl PyBytesInner {
         options: &ByteInnerPaddingOptions,
         lender: &L,
     ) -> Tried<Vec<u8>>
-        ensures { IfOk result (λ outcome. items_of outcome ≡ outcome_of (filled (centered options.now.width) (L.pairs lender.now) options.now.fillchar self.now)) }
+        ensures { GivesOutcomeOfBytes (filled (centered options.now.width) (L.pairs lender.now) options.now.fillchar self.now) result }
     {
         as_vec(pybuf_shaping::center_with(alloc, self.as_bytes(), options, lender))
     }
@@ -131,7 +131,7 @@ impl PyBytesInner {
         options: &ByteInnerPaddingOptions,
         lender: &L,
     ) -> Tried<Vec<u8>>
-        ensures { IfOk result (λ outcome. items_of outcome ≡ outcome_of (filled (justified_left options.now.width) (L.pairs lender.now) options.now.fillchar self.now)) }
+        ensures { GivesOutcomeOfBytes (filled (justified_left options.now.width) (L.pairs lender.now) options.now.fillchar self.now) result }
     {
         as_vec(pybuf_shaping::justify_left_with(alloc, self.as_bytes(), options, lender))
     }
@@ -148,7 +148,7 @@ impl PyBytesInner {
         options: &ByteInnerPaddingOptions,
         lender: &L,
     ) -> Tried<Vec<u8>>
-        ensures { IfOk result (λ outcome. items_of outcome ≡ outcome_of (filled (justified_right options.now.width) (L.pairs lender.now) options.now.fillchar self.now)) }
+        ensures { GivesOutcomeOfBytes (filled (justified_right options.now.width) (L.pairs lender.now) options.now.fillchar self.now) result }
     {
         as_vec(pybuf_shaping::justify_right_with(alloc, self.as_bytes(), options, lender))
     }
@@ -173,7 +173,7 @@ impl PyBytesInner {
     ///
     /// Example: of `b"a\tb"` and the size 4 it gives `b"a   b"`.
     pub fn expandtabs(&self, alloc: Global, options: ExpandTabsArgs) -> Tried<Vec<u8>>
-        ensures { IfOk result (λ outcome. items_of outcome ≡ outcome_of (expanded (tab_size options.tabsize) self.now)) }
+        ensures { GivesOutcomeOfBytes (expanded (tab_size options.tabsize) self.now) result }
     {
         as_vec(pybuf_shaping::expand_tabs(alloc, self.as_bytes(), options.tabsize()))
     }
@@ -192,7 +192,7 @@ impl PyBytesInner {
         to: &PyBytesInner,
         maxcount: Option<isize>,
     ) -> Tried<Vec<u8>>
-        ensures { IfOk result (λ outcome. items_of outcome ≡ outcome_of (replacement (count_given maxcount) from.now to.now self.now)) }
+        ensures { GivesOutcomeOfBytes (replacement (count_given maxcount) from.now to.now self.now) result }
     {
         let most = maxcount.unwrap_or(-1);
         as_vec(pybuf_shaping::replace(alloc, self.as_bytes(), from.as_bytes(), to.as_bytes(), most))

@@ -1,5 +1,5 @@
 -- What the code keeps of a view, which is a descriptor. A descriptor doesn't say where the items start.
-use Rattle.std.specs.Prelude.{ℕ, ◌*◌, ℤ, pos, Bool, List, [], ◌∷◌, map}
+use Rattle.std.specs.Prelude.{ℕ, ◌*◌, ℤ, pos, Bool, List, [], ◌∷◌, map, slice_set, slice_index_or}
 
 -- A dimension is a triple: its number of entries, the distance in bytes from one entry to the next
 -- (its stride), and its suboffset.
@@ -27,3 +27,7 @@ shape_of dims = map (λ dim. dim.0) dims
 
 abbrev pub strides_of : List (ℕ × ℤ × ℤ) → List ℤ
 strides_of dims = map (λ dim. dim.1) dims
+
+-- the dimensions, with another number of entries and another stride in the first
+abbrev pub with_first : List (ℕ × ℤ × ℤ) → ℕ → ℤ → List (ℕ × ℤ × ℤ)
+with_first dims count stride = slice_set dims 0 (count, stride, (slice_index_or dims 0 (0, pos 0, pos 0)).2)

@@ -31,3 +31,11 @@ layout_at d start =
       strides = strides_of d.dims;
       readonly = d.readonly;
     }
+
+-- What the one descriptor stands for, changed in this way, is what the other stands for, each from its own start.
+abbrev pub StandsMoved : Descriptor → ℕ → (Layout → Layout) → Descriptor → ℕ → Type 0
+StandsMoved d start change other other_start = (view : Layout) → Stands d start view → Stands other other_start (change view)
+
+-- the same of one start, whatever it is
+abbrev pub StandsChanged : Descriptor → (Layout → Layout) → Descriptor → Type 0
+StandsChanged d change other = (start : ℕ) (view : Layout) → Stands d start view → Stands other start (change view)

@@ -36,3 +36,7 @@ pub record IsPlaced (d : Descriptor) (start : ℕ) : Type 0 where
 pub record IsPlaceable (d : Descriptor) : Type 0 where
   pub start : ℕ
   pub placed : IsPlaced d start
+
+-- the bytes of items of this size, as many as the entries that aren't 0 make
+abbrev pub full_size : ℕ → List (ℕ × ℤ × ℤ) → ℕ
+full_size itemsize dims = itemsize * product (nonzero_entries (shape_of dims))

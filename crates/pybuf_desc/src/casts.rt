@@ -3,13 +3,14 @@ ghost use Rattle.std.specs.Prelude.{◌≡◌, ◌*◌, ◌/◌, ◌%◌, ◌^�
 ghost use Rattle.pybuf_desc.specs.Layouts.{Layout, product};
 ghost use Rattle.pybuf_desc.specs.Contiguous.{is_contiguous_layout};
 ghost use Rattle.pybuf_desc.specs.Descriptor.{flat_descriptor};
-ghost use Rattle.pybuf_desc.specs.Places.{Stands};
+ghost use Rattle.pybuf_desc.specs.Places.{Stands, StandsChanged};
 ghost use Rattle.pybuf_desc.specs.Valid.{IsValid, IsPlaceable};
 ghost use Rattle.pybuf_desc.specs.RowMajor.{row_major_dims, shaped_cast};
 ghost use Rattle.pybuf_desc.specs.Casts.{cast_of};
 ghost use Rattle.pybuf_desc.specs.ShapedCasts.{cast_to};
 ghost use Rattle.pybuf_desc.specs.ColumnMajor.{column_major_dims, column_cast};
 ghost use Rattle.pybuf_desc.specs.ColumnCasts.{column_cast_to};
+ghost use Rattle.pybuf_value.specs.Halting.{Makes};
 
 use crate::descriptor::BufferDescriptor;
 use crate::dims::Dims;
@@ -85,9 +86,9 @@ impl BufferDescriptor {
         requires some_size { 0 < itemsize }
         requires size_fits { itemsize < 2 ^ 63 }
         requires whole_items { self.now.len % itemsize ≡ 0 }
-        ensures made { IfOk result (λ d. d ≡ flat_descriptor format itemsize (self.now.len / itemsize) self.now.readonly) }
+        ensures made { Makes (flat_descriptor format itemsize (self.now.len / itemsize) self.now.readonly) result }
         ensures valid { IfOk result (λ d. (start room : ℕ) → IsValid self.now start room → IsValid d start room) }
-        ensures stands { IfOk result (λ d. (start : ℕ) (view : Layout) → Stands self.now start view → Stands d start (cast_of view format itemsize)) }
+        ensures stands { IfOk result (λ d. StandsChanged self.now (λ view. cast_of view format itemsize) d) }
     {
         Ok(self.cast_flat_as(KeptFormat::from_text(format), itemsize))
     }
@@ -104,7 +105,7 @@ impl BufferDescriptor {
         requires whole_items { self.now.len % itemsize ≡ 0 }
         ensures made { result ≡ flat_descriptor format itemsize (self.now.len / itemsize) self.now.readonly }
         ensures valid { (start room : ℕ) → IsValid self.now start room → IsValid result start room }
-        ensures stands { (start : ℕ) (view : Layout) → Stands self.now start view → Stands result start (cast_of view format itemsize) }
+        ensures stands { StandsChanged self.now (λ view. cast_of view format itemsize) result }
     {
         BufferDescriptor::flat(self.len(), self.readonly(), itemsize, format)
     }
@@ -132,7 +133,7 @@ impl BufferDescriptor {
         requires whole_items { itemsize * product shape.now ≡ self.now.len }
         ensures made { IfOk result (λ d. d ≡ shaped_cast self.now format itemsize shape.now) }
         ensures valid { IfOk result (λ d. (start room : ℕ) → IsValid self.now start room → IsValid d start room) }
-        ensures stands { IfOk result (λ d. (start : ℕ) (view : Layout) → Stands self.now start view → Stands d start (cast_to view format itemsize shape.now)) }
+        ensures stands { IfOk result (λ d. StandsChanged self.now (λ view. cast_to view format itemsize shape.now) d) }
     {
         self.cast_shape_as(alloc, KeptFormat::from_text(format), itemsize, shape)
     }
@@ -156,7 +157,7 @@ impl BufferDescriptor {
         requires whole_items { itemsize * product shape.now ≡ self.now.len }
         ensures made { IfOk result (λ d. d ≡ shaped_cast self.now format itemsize shape.now) }
         ensures valid { IfOk result (λ d. (start room : ℕ) → IsValid self.now start room → IsValid d start room) }
-        ensures stands { IfOk result (λ d. (start : ℕ) (view : Layout) → Stands self.now start view → Stands d start (cast_to view format itemsize shape.now)) }
+        ensures stands { IfOk result (λ d. StandsChanged self.now (λ view. cast_to view format itemsize shape.now) d) }
     {
         let dims = row_major_dims(alloc, self.len(), itemsize, shape)?;
         Ok(BufferDescriptor::from_dims(self.len(), self.readonly(), itemsize, format, dims))
@@ -185,7 +186,7 @@ impl BufferDescriptor {
         requires whole_items { itemsize * product shape.now ≡ self.now.len }
         ensures made { IfOk result (λ d. d ≡ column_cast self.now format itemsize shape.now) }
         ensures valid { IfOk result (λ d. (start room : ℕ) → IsValid self.now start room → IsValid d start room) }
-        ensures stands { IfOk result (λ d. (start : ℕ) (view : Layout) → Stands self.now start view → Stands d start (column_cast_to view format itemsize shape.now)) }
+        ensures stands { IfOk result (λ d. StandsChanged self.now (λ view. column_cast_to view format itemsize shape.now) d) }
     {
         let dims = column_major_list(alloc, itemsize, shape)?;
         let format = KeptFormat::from_text(format);

@@ -1,10 +1,8 @@
 //! Checks of dimensions, without trust in their numbers.
 ghost use Rattle.std.specs.Prelude.{◌≡◌, ◌≢◌, ◌*◌, ◌^◌, ◌<◌, ◌↔◌, pos, SomeIff, IsTrue, All, drop};
 ghost use Rattle.std.specs.List.{Any};
-ghost use Rattle.pybuf_desc.specs.Layouts.{product};
-ghost use Rattle.pybuf_desc.specs.Descriptor.{shape_of};
 ghost use Rattle.pybuf_desc.specs.Places.{places};
-ghost use Rattle.pybuf_desc.specs.Valid.{IsInside, nonzero_entries};
+ghost use Rattle.pybuf_desc.specs.Valid.{IsInside, full_size};
 
 /// Whether each dimension has a stride that isn't 0.
 pub fn has_strides(dims: &[(usize, isize, isize)]) -> bool
@@ -40,7 +38,7 @@ pub fn has_later_entries(dims: &[(usize, isize, isize)]) -> bool
 /// The item size times the entries that aren't 0, where it is at most `isize::MAX`.
 pub fn extent(itemsize: usize, dims: &[(usize, isize, isize)]) -> Option<usize>
     requires { itemsize < 2 ^ 63 }
-    ensures { SomeIff result (itemsize * product (nonzero_entries (shape_of dims.now)) < 2 ^ 63) (itemsize * product (nonzero_entries (shape_of dims.now))) }
+    ensures { SomeIff result (full_size itemsize dims.now < 2 ^ 63) (full_size itemsize dims.now) }
 {
     let mut extent = itemsize;
     for dim in dims {

@@ -1,5 +1,5 @@
 //! The descriptor, how one is made, and what it says of itself.
-ghost use Rattle.std.specs.Prelude.{◌≡◌, ◌==◌, ◌+◌, ◌*◌, ◌/◌, ◌%◌, ◌^◌, ◌<◌, ◌≤◌, ◌↔◌, ℕ, [], ◌∷◌, pos, true, length, IfOk, IfErr, IsOk, IsTrue, slice_set, slice_index_or, codes};
+ghost use Rattle.std.specs.Prelude.{◌≡◌, ◌==◌, ◌+◌, ◌*◌, ◌/◌, ◌%◌, ◌^◌, ◌<◌, ◌≤◌, ◌↔◌, ℕ, [], ◌∷◌, true, length, IfOk, IfErr, IsOk, IsTrue, codes};
 ghost use Rattle.std.specs.List.{Any};
 ghost use Rattle.pybuf_value.specs.declared.faults.Fault.{Fault};
 
@@ -51,9 +51,9 @@ fn items_in(len: usize, itemsize: usize) -> usize
 }
 
 impl BufferDescriptor {
-    ghost use Rattle.pybuf_desc.specs.Layouts.{Layout, flat_layout, bytes_layout, bytes_layout_from};
-    ghost use Rattle.pybuf_desc.specs.Descriptor.{Descriptor, flat_descriptor};
-    ghost use Rattle.pybuf_desc.specs.Places.{Stands};
+    ghost use Rattle.pybuf_desc.specs.Layouts.{flat_layout, bytes_layout, bytes_layout_from};
+    ghost use Rattle.pybuf_desc.specs.Descriptor.{Descriptor, flat_descriptor, with_first};
+    ghost use Rattle.pybuf_desc.specs.Places.{Stands, StandsChanged};
     ghost use Rattle.pybuf_desc.specs.Valid.{IsValid};
 
     /// The number of bytes of all items. Takes no memory.
@@ -244,7 +244,7 @@ impl BufferDescriptor {
         stride: isize,
     ) -> Made<BufferDescriptor>
         requires { 0 < length self.now.dims }
-        ensures { IfOk result (λ d. d ≡ record self.now { len = len; dims = slice_set self.now.dims 0 (count, stride, (slice_index_or self.now.dims 0 (0, pos 0, pos 0)).2) }) }
+        ensures { IfOk result (λ d. d ≡ record self.now { len = len; dims = with_first self.now.dims count stride }) }
     {
         let format = self.format.copy(alloc)?;
         let dim_desc = self.dim_desc.with_first(alloc, count, stride)?;
@@ -264,7 +264,7 @@ impl BufferDescriptor {
     pub fn to_readonly(&self, alloc: Global) -> Made<BufferDescriptor>
         ensures made { IfOk result (λ d. d ≡ record self.now { readonly = true }) }
         ensures valid { IfOk result (λ d. (start room : ℕ) → IsValid self.now start room → IsValid d start room) }
-        ensures stands { IfOk result (λ d. (start : ℕ) (view : Layout) → Stands self.now start view → Stands d start (record view { readonly = true })) }
+        ensures stands { IfOk result (λ d. StandsChanged self.now (λ view. record view { readonly = true }) d) }
     {
         let format = self.format.copy(alloc)?;
         let dim_desc = self.dim_desc.copy(alloc)?;

@@ -1,6 +1,8 @@
 //! The dimensions of a descriptor. Up to three take no memory of their own, since most views have no
 //! more and a view is made at each slice.
-ghost use Rattle.std.specs.Prelude.{◌≡◌, ◌<◌, ℕ, ℤ, pos, List, [], ◌∷◌, length, IfOk, IfSome, slice_set, slice_index_or};
+ghost use Rattle.std.specs.Prelude.{◌≡◌, ◌<◌, ℕ, ℤ, List, [], ◌∷◌, length, IfSome};
+ghost use Rattle.pybuf_value.specs.Halting.{Makes};
+ghost use Rattle.pybuf_desc.specs.Descriptor.{with_first};
 
 use pybuf_value::{DimList, Exact, Made, Twin};
 use std::alloc::Global;
@@ -48,7 +50,7 @@ fn few_dims(dims: &[Dim]) -> Option<Dims>
 /// The dimensions with another first one, in a vector.
 fn many_with_first(alloc: Global, dims: &DimList, count: usize, stride: isize) -> Made<Dims>
     requires { 0 < length dims.now }
-    ensures { IfOk result (λ d. d ≡ slice_set dims.now 0 (count, stride, (slice_index_or dims.now 0 (0, pos 0, pos 0)).2)) }
+    ensures { Makes (with_first dims.now count stride) result }
 {
     let mut list = dims.copy(alloc)?.into_vec();
     let suboffset = list[0].2;
@@ -115,7 +117,7 @@ impl Dims {
     #[inline(always)]
     pub(crate) fn with_first(&self, alloc: Global, count: usize, stride: isize) -> Made<Dims>
         requires { 0 < length self.now }
-        ensures { IfOk result (λ d. d ≡ slice_set self.now 0 (count, stride, (slice_index_or self.now 0 (0, pos 0, pos 0)).2)) }
+        ensures { Makes (with_first self.now count stride) result }
     {
         match &self.kept {
             KeptDims::One(dims) => {

@@ -1,12 +1,12 @@
 //! The same items one after the other, as they lie in a copy of their bytes.
 ghost use Rattle.std.specs.Prelude.{◌≡◌, ◌*◌, ◌/◌, ◌^◌, ◌<◌, ℕ, All, IfOk, drop};
-ghost use Rattle.pybuf_desc.specs.Layouts.{Layout, product};
+ghost use Rattle.pybuf_desc.specs.Layouts.{product};
 ghost use Rattle.pybuf_desc.specs.Descriptor.{shape_of};
-ghost use Rattle.pybuf_desc.specs.Places.{Stands};
 ghost use Rattle.pybuf_desc.specs.Valid.{IsValid, IsPlaceable, nonzero_entries};
 ghost use Rattle.pybuf_desc.specs.RowMajor.{row_major_dims};
 ghost use Rattle.pybuf_desc.specs.Packed.{row_major_of};
 ghost use Rattle.pybuf_desc.specs.PackedDescriptor.{row_major_descriptor};
+ghost use Rattle.pybuf_desc.specs.Places.{StandsMoved};
 
 use crate::checks::extent;
 use crate::descriptor::BufferDescriptor;
@@ -92,7 +92,7 @@ impl BufferDescriptor {
         requires { IsPlaceable self.now }
         ensures made { IfOk result (λ d. d ≡ row_major_descriptor self.now) }
         ensures valid { IfOk result (λ d. IsValid d 0 self.now.len) }
-        ensures stands { IfOk result (λ d. (start : ℕ) (view : Layout) → Stands self.now start view → Stands d 0 (row_major_of view)) }
+        ensures stands { IfOk result (λ d. (start : ℕ) → StandsMoved self.now start row_major_of d 0) }
     {
         let bytes = fitting_extent(self.itemsize(), self.dim_desc());
         let format = self.format_text().copy(alloc)?;

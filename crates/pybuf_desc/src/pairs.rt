@@ -7,8 +7,8 @@ ghost use Rattle.pybuf_desc.specs.Layouts.{product};
 ghost use Rattle.pybuf_desc.specs.Valid.{IsPlaced, IsPlaceable};
 ghost use Rattle.pybuf_desc.specs.Tails.{tail_of};
 ghost use Rattle.pybuf_desc.specs.Segments.{ranges_of, item_bytes, bytes_of};
-ghost use Rattle.pybuf_desc.specs.SegmentLines.{ranges_of_line, IsLine};
-ghost use Rattle.pybuf_desc.specs.Pairs.{joined_count_of_both, pairs_of};
+ghost use Rattle.pybuf_desc.specs.SegmentLines.{IsLine};
+ghost use Rattle.pybuf_desc.specs.Pairs.{joined_count_of_both, pairs_of, pairs_of_rows};
 
 use crate::descriptor::BufferDescriptor;
 use crate::line::SegmentLine;
@@ -54,7 +54,7 @@ impl<'a> ZipSegments<'a> {
     /// no memory.
     /// Example: of two views of three bytes, item by item, the first call takes two lines of three ranges.
     pub fn next_lines(&mut self) -> Option<(SegmentLine, SegmentLine)>
-        ensures pairs { MatchOption result (self.new ≡ self.old) (λ lines. self.old ≡ zip (ranges_of_line lines.0) (ranges_of_line lines.1) ++ self.new) }
+        ensures pairs { MatchOption result (self.new ≡ self.old) (λ lines. self.old ≡ pairs_of_rows lines ++ self.new) }
         ensures first_line { IfSome result (λ lines. IsLine lines.0) }
         ensures second_line { IfSome result (λ lines. IsLine lines.1) }
         ensures as_many { IfSome result (λ lines. lines.0.count ≡ lines.1.count) }

@@ -190,7 +190,7 @@ impl<'a> Segments<'a> {
         other: &mut Segments<'_>,
     ) -> Option<(SegmentLine, SegmentLine)>
         ensures first { MatchOption result (self.new ≡ self.old) (λ lines. self.old ≡ ranges_of_line lines.0 ++ self.new) }
-        ensures second { MatchOption result (other.new ≡ other.old) (λ lines. other.old ≡ ranges_of_line lines.1 ++ other.new) }
+        ensures second { MatchOption result (other.new ≡ other.old) (λ pair. other.old ≡ ranges_of_line pair.1 ++ other.new) }
         ensures first_line { IfSome result (λ lines. IsLine lines.0) }
         ensures second_line { IfSome result (λ lines. IsLine lines.1) }
         ensures as_many { IfSome result (λ lines. lines.0.count ≡ lines.1.count) }

@@ -2,11 +2,10 @@
 ghost use Rattle.std.specs.Prelude.{◌≡◌, ◌+◌, ◌*◌, ◌^◌, ◌<◌, ◌≤◌, ℕ, ℤ, pos, [], ◌∷◌, ◌+ℤ◌, ◌*ℤ◌, ◌≤ℤ◌, ◌<ℤ◌, FitsSigned, IfOk, length, slice_set, slice_index_or};
 ghost use Rattle.std.specs.Int.{w64};
 ghost use Rattle.pybuf_index.specs.Parts.{picks_of, nearest_word};
-ghost use Rattle.pybuf_desc.specs.Layouts.{Layout};
 ghost use Rattle.pybuf_desc.specs.Descriptor.{Descriptor, shape_of, strides_of};
-ghost use Rattle.pybuf_desc.specs.Places.{Stands};
 ghost use Rattle.pybuf_desc.specs.Valid.{IsValid, IsPlaced};
 ghost use Rattle.pybuf_desc.specs.Slices.{first_entry, first_stride, slice_of};
+ghost use Rattle.pybuf_desc.specs.Places.{StandsMoved};
 
 use crate::descriptor::BufferDescriptor;
 use pybuf_index::SaturatedSlice;
@@ -73,7 +72,7 @@ impl BufferDescriptor {
     ) -> Made<(BufferDescriptor, usize)>
         requires placed { IsPlaced self.now start }
         requires some_dimension { 0 < length self.now.dims }
-        ensures stands { IfOk result (λ r. (view : Layout) → Stands self.now start view → Stands r.0 r.1 (slice_of view slice.now)) }
+        ensures stands { IfOk result (λ r. StandsMoved self.now start (λ view. slice_of view slice.now) r.0 r.1) }
         ensures valid { IfOk result (λ r. (room : ℕ) → IsValid self.now start room → IsValid r.0 r.1 room) }
         ensures exact { IfOk result (λ r. 1 < first_entry (shape_of r.0.dims) → first_stride (strides_of r.0.dims) ≡ first_stride (strides_of self.now.dims) *ℤ slice.now.step) }
         ensures unmoved { IfOk result (λ r. first_entry (shape_of r.0.dims) ≡ 0 → r.1 ≡ start) }

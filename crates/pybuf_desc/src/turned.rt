@@ -1,9 +1,8 @@
 //! The same items with their dimensions the last first.
 ghost use Rattle.std.specs.Prelude.{◌≡◌, ◌<◌, ℕ, All, IfOk, reverse};
-ghost use Rattle.pybuf_desc.specs.Layouts.{Layout};
-ghost use Rattle.pybuf_desc.specs.Places.{Stands};
 ghost use Rattle.pybuf_desc.specs.Valid.{IsValid, IsPlaceable};
 ghost use Rattle.pybuf_desc.specs.ColumnOrder.{columns_of};
+ghost use Rattle.pybuf_desc.specs.Places.{StandsChanged};
 
 use crate::descriptor::BufferDescriptor;
 use crate::dims::Dims;
@@ -33,7 +32,7 @@ impl BufferDescriptor {
         requires entries { All (λ dim. 0 < dim.0) self.now.dims }
         ensures made { IfOk result (λ d. d ≡ record self.now { dims = reverse self.now.dims }) }
         ensures valid { IfOk result (λ d. (start room : ℕ) → IsValid self.now start room → IsValid d start room) }
-        ensures stands { IfOk result (λ d. (start : ℕ) (view : Layout) → Stands self.now start view → Stands d start (columns_of view)) }
+        ensures stands { IfOk result (λ d. StandsChanged self.now columns_of d) }
     {
         let format = self.format_text().copy(alloc)?;
         let dims = turned_dims(alloc, self.dim_desc())?;

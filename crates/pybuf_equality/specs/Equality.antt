@@ -1,12 +1,15 @@
 -- When two views are equal. They need the same number of dimensions, shapes that agree, and equal items. Each item is
 -- read by the format of its own side.
-use Rattle.std.specs.Prelude.{ℕ, zero, suc, ◌==◌, ◌&&◌, Bool, true, false, List, [], ◌∷◌, take, drop, length, codes}
+use Rattle.std.specs.Prelude.{ℕ, zero, suc, ◌==◌, ◌&&◌, Bool, true, false, List, [], ◌∷◌, take, drop, length, codes, bytes_eq}
 use Rattle.pybuf_value.specs.declared.values.Item.{Item}
 use Rattle.pybuf_value.specs.declared.snaps.Snap.{Snap}
 use Rattle.pybuf_value.specs.declared.snaps.SnapKind.TheVariants as kind
 use Rattle.pybuf_value.specs.Equality.{same_item}
-use Rattle.pybuf_desc.specs.Layouts.{product}
+use Rattle.pybuf_desc.specs.Layouts.{product, Layout}
 use Rattle.pybuf_memoryview.specs.Items.{item_by}
+use Rattle.pybuf_desc.specs.Items.{content_of_layout}
+use Rattle.pybuf_memoryview.specs.Lists.{items_of_layout}
+use Rattle.pybuf_memoryview.specs.Snaps.{snap_of_layout}
 
 -- ---- the items of what a handle names
 
@@ -59,3 +62,17 @@ snap_of_bytes bytes = record {
   contiguous = true;
   released = false;
 }
+
+-- ---- two layouts, each over bytes of its own
+
+-- their items are equal, each read by the format of its own side
+abbrev pub have_equal_items : List ℕ → Layout → List ℕ → Layout → Bool
+have_equal_items bytes layout other other_layout = same_items (items_of_layout bytes layout) (items_of_layout other other_layout)
+
+-- the bytes of their items are the same
+abbrev pub have_same_content : List ℕ → Layout → List ℕ → Layout → Bool
+have_same_content bytes layout other other_layout = bytes_eq (content_of_layout bytes layout) (content_of_layout other other_layout)
+
+-- they are equal views
+abbrev pub are_equal_views : List ℕ → Layout → List ℕ → Layout → Bool
+are_equal_views bytes layout other other_layout = same_view (snap_of_layout bytes layout false) (snap_of_layout other other_layout false)

@@ -1,8 +1,8 @@
 //! Two views.
-ghost use Rattle.std.specs.Prelude.{◌≡◌, length, false, IfOk};
+ghost use Rattle.std.specs.Prelude.{◌≡◌, length};
 ghost use Rattle.pybuf_desc.specs.Layouts.{LiesInside};
-ghost use Rattle.pybuf_memoryview.specs.Snaps.{snap_of_layout};
-ghost use Rattle.pybuf_equality.specs.Equality.{same_view};
+ghost use Rattle.pybuf_equality.specs.Equality.{are_equal_views};
+ghost use Rattle.pybuf_value.specs.Halting.{Makes};
 
 use crate::items::equal_items;
 use crate::shapes::dims_agree;
@@ -29,7 +29,7 @@ pub fn equal_views(
 ) -> Made<bool>
     requires inside { LiesInside (length bytes.now) layout.now }
     requires other_inside { LiesInside (length other.now) other_layout.now }
-    ensures { IfOk result (λ answer. answer ≡ same_view (snap_of_layout bytes.now layout.now false) (snap_of_layout other.now other_layout.now false)) }
+    ensures { Makes (are_equal_views bytes.now layout.now other.now other_layout.now) result }
 {
     let (descriptor, _) = layout.placed();
     let (other_descriptor, _) = other_layout.placed();

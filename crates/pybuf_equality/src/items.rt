@@ -1,13 +1,11 @@
 //! The items of two views of one shape, compared one by one.
-ghost use Rattle.std.specs.Prelude.{◌≡◌, length, true, IfOk};
+ghost use Rattle.std.specs.Prelude.{◌≡◌, length, true};
 ghost use Rattle.pybuf_desc.specs.Layouts.{LiesInside, HasItemsOfItsShape};
-ghost use Rattle.pybuf_memoryview.specs.Readers.{read_by, IsSpelledBy};
-ghost use Rattle.pybuf_memoryview.specs.Lists.{items_of_layout};
-ghost use Rattle.pybuf_desc.specs.Segments.{bytes_in};
-ghost use Rattle.pybuf_value.specs.Equality.{same_item};
-ghost use Rattle.pybuf_equality.specs.Equality.{same_items};
+ghost use Rattle.pybuf_memoryview.specs.Readers.{IsSpelledBy};
 ghost use Rattle.pybuf_equality.specs.Reading.{ReadsAs};
-ghost use Rattle.pybuf_equality.specs.Walks.{IsPart, ArePaired, same_items_of};
+ghost use Rattle.pybuf_equality.specs.Walks.{IsPart, ArePaired, same_items_of, same_items_in};
+ghost use Rattle.pybuf_equality.specs.Equality.{have_equal_items};
+ghost use Rattle.pybuf_value.specs.Halting.{Makes};
 
 use crate::exact::is_exact_reader;
 use crate::number_rows::equal_numbers_of;
@@ -31,7 +29,7 @@ fn equal_at(
 ) -> Made<bool>
     requires part { IsPart (length bytes.now) range }
     requires other_part { IsPart (length other.now) other_range }
-    ensures { IfOk result (λ answer. answer ≡ same_item (read_by reader.now (bytes_in bytes.now range)) (read_by other_reader.now (bytes_in other.now other_range))) }
+    ensures { Makes (same_items_in reader.now other_reader.now bytes.now other.now (range, other_range)) result }
 {
     let item = read_by(alloc, reader, &bytes[range])?;
     let other_item = read_by(alloc, other_reader, &other[other_range])?;
@@ -48,7 +46,7 @@ fn equal_pairs(
     mut pairs: ZipSegments<'_>,
 ) -> Made<bool>
     requires { ArePaired (length bytes.now) (length other.now) pairs }
-    ensures { IfOk result (λ answer. answer ≡ same_items_of reader.now other_reader.now bytes.now other.now pairs.entry) }
+    ensures { Makes (same_items_of reader.now other_reader.now bytes.now other.now pairs.entry) result }
 {
     while let Some((range, other_range)) = pairs.next() {
         if !equal_at(
@@ -81,7 +79,7 @@ fn equal_by_readers(
     requires same_shape { layout.now.shape ≡ other_layout.now.shape }
     requires reads { ReadsAs reader.now layout.now.format layout.now.itemsize }
     requires other_reads { ReadsAs other_reader.now other_layout.now.format other_layout.now.itemsize }
-    ensures { IfOk result (λ answer. answer ≡ same_items (items_of_layout bytes.now layout.now) (items_of_layout other.now other_layout.now)) }
+    ensures { Makes (have_equal_items bytes.now layout.now other.now other_layout.now) result }
 {
     pybuf_desc::ranges_stay_inside();
     let (descriptor, start) = layout.placed();
@@ -132,7 +130,7 @@ fn equal_as_read(
     requires spelled { IsSpelledBy layout.now.format reader.now }
     requires reads { ReadsAs reader.now layout.now.format layout.now.itemsize }
     requires other_reads { ReadsAs other_reader.now other_layout.now.format other_layout.now.itemsize }
-    ensures { IfOk result (λ answer. answer ≡ same_items (items_of_layout bytes.now layout.now) (items_of_layout other.now other_layout.now)) }
+    ensures { Makes (have_equal_items bytes.now layout.now other.now other_layout.now) result }
 {
     pybuf_value::item_equality_is_equivalence();
     pybuf_struct::writes_what_was_read();
@@ -177,7 +175,7 @@ pub(crate) fn equal_items(
     requires same_shape { layout.now.shape ≡ other_layout.now.shape }
     requires counted { HasItemsOfItsShape layout.now }
     requires other_counted { HasItemsOfItsShape other_layout.now }
-    ensures { IfOk result (λ answer. answer ≡ same_items (items_of_layout bytes.now layout.now) (items_of_layout other.now other_layout.now)) }
+    ensures { Makes (have_equal_items bytes.now layout.now other.now other_layout.now) result }
 {
     pybuf_value::item_equality_is_equivalence();
     pybuf_struct::writes_what_was_read();

@@ -3,10 +3,9 @@ ghost use Rattle.std.specs.Prelude.{◌≡◌, ◌-◌, length, IsTrue};
 ghost use Rattle.pybuf_struct.specs.Digits.{is_width};
 ghost use Rattle.pybuf_desc.specs.Layouts.{LiesInside};
 ghost use Rattle.pybuf_desc.specs.SegmentLines.{IsLine};
-ghost use Rattle.pybuf_memoryview.specs.Lists.{items_of_layout};
-ghost use Rattle.pybuf_equality.specs.Equality.{same_items};
 ghost use Rattle.pybuf_equality.specs.Reading.{ReadsAsNumber};
 ghost use Rattle.pybuf_equality.specs.Walks.{IsPart, ArePaired, HaveSizes, pairs_of_lines, same_numbers_in, same_numbers_of};
+ghost use Rattle.pybuf_equality.specs.Equality.{have_equal_items};
 
 use crate::numbers::equal_numbers;
 use pybuf_desc::{SegmentLine, ZipSegments};
@@ -149,7 +148,7 @@ pub(crate) fn equal_numbers_of(
     requires other_width { IsTrue (is_width other_layout.now.itemsize) }
     requires reads { ReadsAsNumber signed layout.now.format layout.now.itemsize }
     requires other_reads { ReadsAsNumber other_signed other_layout.now.format other_layout.now.itemsize }
-    ensures { result ≡ same_items (items_of_layout bytes.now layout.now) (items_of_layout other.now other_layout.now) }
+    ensures { result ≡ have_equal_items bytes.now layout.now other.now other_layout.now }
 {
     pybuf_desc::ranges_stay_inside();
     let (descriptor, start) = layout.placed();

@@ -2,7 +2,7 @@
 ghost use Rattle.std.specs.Prelude.{◌≡◌, ◌+◌, ◌*◌, ◌<◌, ◌≤◌, ◌^◌, length, take, drop, bytes_eq, true, IsTrue};
 ghost use Rattle.pybuf_strided.specs.Apart.{place_of, AreInside};
 ghost use Rattle.pybuf_struct.specs.Digits.{is_width};
-ghost use Rattle.pybuf_equality.specs.Tracks.{all_below, same_piece};
+ghost use Rattle.pybuf_equality.specs.Tracks.{all_below, same_piece, same_pieces, same_pieces_by};
 
 use crate::tracks::place;
 use crate::words::word;
@@ -41,7 +41,7 @@ fn equal_sized<const SIZE: usize, const FALLS: bool, const OTHER_FALLS: bool>(
     requires width { IsTrue (is_width SIZE) }
     requires inside { AreInside FALLS track.start track.step count SIZE (length bytes.now) }
     requires other_inside { AreInside OTHER_FALLS other_track.start other_track.step count SIZE (length other.now) }
-    ensures { result ≡ all_below (same_piece bytes.now (place_of FALLS track.start track.step) other.now (place_of OTHER_FALLS other_track.start other_track.step) SIZE) count }
+    ensures { result ≡ same_pieces_by FALLS OTHER_FALLS bytes.now track other.now other_track SIZE count }
 {
     for k in 0..count {
         let at = place::<FALLS>(track, k);
@@ -65,7 +65,7 @@ fn equal_unsized<const FALLS: bool, const OTHER_FALLS: bool>(
     requires some_size { 0 < size }
     requires inside { AreInside FALLS track.start track.step count size (length bytes.now) }
     requires other_inside { AreInside OTHER_FALLS other_track.start other_track.step count size (length other.now) }
-    ensures { result ≡ all_below (same_piece bytes.now (place_of FALLS track.start track.step) other.now (place_of OTHER_FALLS other_track.start other_track.step) size) count }
+    ensures { result ≡ same_pieces_by FALLS OTHER_FALLS bytes.now track other.now other_track size count }
 {
     for k in 0..count {
         let at = place::<FALLS>(track, k);
@@ -89,7 +89,7 @@ fn equal_by_size<const FALLS: bool, const OTHER_FALLS: bool>(
     requires some_size { 0 < size }
     requires inside { AreInside FALLS track.start track.step count size (length bytes.now) }
     requires other_inside { AreInside OTHER_FALLS other_track.start other_track.step count size (length other.now) }
-    ensures { result ≡ all_below (same_piece bytes.now (place_of FALLS track.start track.step) other.now (place_of OTHER_FALLS other_track.start other_track.step) size) count }
+    ensures { result ≡ same_pieces_by FALLS OTHER_FALLS bytes.now track other.now other_track size count }
 {
     match size {
         1 => equal_sized::<1, FALLS, OTHER_FALLS>(bytes, track, other, other_track, count),
@@ -143,7 +143,7 @@ pub(crate) fn equal_pieces(
 ) -> bool
     requires inside { AreInside track.falls track.start track.step count size (length bytes.now) }
     requires other_inside { AreInside other_track.falls other_track.start other_track.step count size (length other.now) }
-    ensures { result ≡ all_below (same_piece bytes.now (place_of track.falls track.start track.step) other.now (place_of other_track.falls other_track.start other_track.step) size) count }
+    ensures { result ≡ same_pieces bytes.now track other.now other_track size count }
 {
     if size == 0 {
         return true;

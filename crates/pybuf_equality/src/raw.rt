@@ -1,11 +1,11 @@
 //! The bytes of the items of two views, compared as they lie.
 ghost use Rattle.std.specs.Prelude.{◌≡◌, ◌≤◌, length, bytes_eq, true};
 ghost use Rattle.pybuf_desc.specs.Contiguous.{is_contiguous_layout};
-ghost use Rattle.pybuf_desc.specs.Items.{content_of_layout};
 ghost use Rattle.pybuf_desc.specs.Layouts.{LiesInside};
 ghost use Rattle.pybuf_desc.specs.Segments.{bytes_in};
 ghost use Rattle.pybuf_desc.specs.SegmentLines.{IsLine};
 ghost use Rattle.pybuf_equality.specs.Walks.{IsPart, ArePaired, AreAsLong, pairs_of_lines, same_ranges};
+ghost use Rattle.pybuf_equality.specs.Equality.{have_same_content};
 
 use crate::pieces::equal_pieces;
 use pybuf_desc::{SegmentLine, ZipSegments};
@@ -70,7 +70,7 @@ fn equal_runs(bytes: &[u8], layout: &KeptLayout, other: &[u8], other_layout: &Ke
     requires other_inside { LiesInside (length other.now) other_layout.now }
     requires contiguous { is_contiguous_layout layout.now ≡ true }
     requires other_contiguous { is_contiguous_layout other_layout.now ≡ true }
-    ensures { result ≡ bytes_eq (content_of_layout bytes.now layout.now) (content_of_layout other.now other_layout.now) }
+    ensures { result ≡ have_same_content bytes.now layout.now other.now other_layout.now }
 {
     let place = first_place(layout);
     let end = place + layout.nbytes();
@@ -88,7 +88,7 @@ fn equal_rows(bytes: &[u8], layout: &KeptLayout, other: &[u8], other_layout: &Ke
     requires other_inside { LiesInside (length other.now) other_layout.now }
     requires same_shape { layout.now.shape ≡ other_layout.now.shape }
     requires same_size { layout.now.itemsize ≡ other_layout.now.itemsize }
-    ensures { result ≡ bytes_eq (content_of_layout bytes.now layout.now) (content_of_layout other.now other_layout.now) }
+    ensures { result ≡ have_same_content bytes.now layout.now other.now other_layout.now }
 {
     pybuf_desc::ranges_have_the_content();
     pybuf_desc::ranges_stay_inside();
@@ -112,7 +112,7 @@ pub(crate) fn equal_bytes(
     requires other_inside { LiesInside (length other.now) other_layout.now }
     requires same_shape { layout.now.shape ≡ other_layout.now.shape }
     requires same_size { layout.now.itemsize ≡ other_layout.now.itemsize }
-    ensures { result ≡ bytes_eq (content_of_layout bytes.now layout.now) (content_of_layout other.now other_layout.now) }
+    ensures { result ≡ have_same_content bytes.now layout.now other.now other_layout.now }
 {
     if layout.is_contiguous() {
         if other_layout.is_contiguous() {

@@ -1,20 +1,16 @@
 //! Readers of whole numbers.
-ghost use Rattle.std.specs.Prelude.{◌≡◌, ℕ, List, [], ◌∷◌, length, Ok, false, IfSome, IsTrue};
-ghost use Rattle.pybuf_value.specs.declared.values.Item.TheVariants as items;
-ghost use Rattle.pybuf_value.specs.declared.values.Scalar.TheVariants as scalars;
-ghost use Rattle.pybuf_struct.specs.declared.table.Endianness.{Endianness};
-ghost use Rattle.pybuf_struct.specs.Digits.{is_width, number};
+ghost use Rattle.std.specs.Prelude.{◌≡◌, ℕ, [], ◌∷◌, length, IfSome, IsTrue};
+ghost use Rattle.pybuf_struct.specs.Digits.{is_width};
 ghost use Rattle.pybuf_struct.specs.Formats.{fields_of_code};
 ghost use Rattle.pybuf_struct.specs.Table.{is_big};
-ghost use Rattle.pybuf_struct.specs.Values.{value_of, unpacked_values};
-ghost use Rattle.pybuf_memoryview.specs.Readers.{read_by};
+ghost use Rattle.pybuf_equality.specs.Reading.{CodeReadsNumber, ReaderReadsNumber, UnpacksNumber};
 
 use pybuf_memoryview::ItemReader;
 use pybuf_struct::{Endianness, FormatCode, FormatSpec, FormatType};
 
 /// Whether numbers of a code are signed, of a code whose value is a whole number.
 fn sign_of(code: FormatType) -> Option<bool>
-    ensures value { IfSome result (λ signed. (order : Endianness) (bytes : List ℕ) → value_of order code bytes ≡ scalars.Int (number (is_big order) signed bytes)) }
+    ensures value { IfSome result (λ signed. CodeReadsNumber code signed) }
     ensures field { IfSome result (λ signed. (size offset : ℕ) → fields_of_code code size offset 1 ≡ record { code = code; offset = offset; length = size } ∷ []) }
 {
     match code {
@@ -57,7 +53,7 @@ fn only_code(codes: &[FormatCode]) -> Option<FormatCode>
 /// Whether numbers are signed that items of so many bytes are read as by a format, one number each, whose
 /// first byte is worth least.
 fn single_sign(format: &FormatSpec, size: usize) -> Option<bool>
-    ensures { IfSome result (λ signed. (bytes : List ℕ) → length bytes ≡ size → unpacked_values format.now bytes ≡ Ok (scalars.Int (number false signed bytes) ∷ [])) }
+    ensures { IfSome result (λ signed. UnpacksNumber format.now size signed) }
 {
     if format.size() != size {
         return None;
@@ -88,7 +84,7 @@ fn is_width(size: usize) -> bool
 /// Whether numbers are signed, where items of so many bytes are read as one whole number each, whose first
 /// byte is worth least.
 pub(crate) fn number_sign(reader: &ItemReader, size: usize) -> Option<bool>
-    ensures reads { IfSome result (λ signed. (bytes : List ℕ) → length bytes ≡ size → read_by reader.now bytes ≡ items.One (scalars.Int (number false signed bytes))) }
+    ensures reads { IfSome result (λ signed. ReaderReadsNumber reader.now size signed) }
     ensures width { IfSome result (λ signed. IsTrue (is_width size)) }
 {
     if !is_width(size) {

@@ -5,6 +5,7 @@ ghost use Rattle.pybuf_memoryview.specs.Snaps.{snap_of_layout};
 ghost use Rattle.pybuf_equality.specs.Equality.{same_view, snap_of_bytes};
 ghost use Rattle.pybuf_equality.specs.Laws.{HasAllItems};
 ghost use Rattle.pybuf_equality.specs.Packed.{IsPacked};
+ghost use Rattle.pybuf_value.specs.Halting.{Makes};
 
 use crate::equality::equal_views;
 use crate::shapes::entries_agree;
@@ -40,7 +41,7 @@ fn packed_layout(
 pub fn equal_to_content(alloc: Global, bytes: &[u8], layout: &KeptLayout, snap: &Snap) -> Made<bool>
     requires inside { LiesInside (length bytes.now) layout.now }
     requires whole { HasAllItems snap.now }
-    ensures { IfOk result (λ answer. answer ≡ same_view (snap_of_layout bytes.now layout.now false) snap.now) }
+    ensures { Makes (same_view (snap_of_layout bytes.now layout.now false) snap.now) result }
 {
     let (descriptor, _) = layout.placed();
     if descriptor.ndim() != snap.shape.len() {
@@ -67,7 +68,7 @@ pub fn equal_to_content(alloc: Global, bytes: &[u8], layout: &KeptLayout, snap: 
 /// Example: a view of `b"abc"` is equal to `b"abc"`, and one in the shape `[3, 1]` is not.
 pub fn equal_to_bytes(alloc: Global, bytes: &[u8], layout: &KeptLayout, other: &[u8]) -> Made<bool>
     requires { LiesInside (length bytes.now) layout.now }
-    ensures { IfOk result (λ answer. answer ≡ same_view (snap_of_layout bytes.now layout.now false) (snap_of_bytes other.now)) }
+    ensures { Makes (same_view (snap_of_layout bytes.now layout.now false) (snap_of_bytes other.now)) result }
 {
     let whole = KeptLayout::whole(alloc, other.len(), true)?;
     equal_views(alloc, bytes, layout, other, &whole)

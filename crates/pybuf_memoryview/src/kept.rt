@@ -1,5 +1,5 @@
 //! Where the items of a view lie and how they read, as it is kept: by a descriptor and a start.
-ghost use Rattle.std.specs.Prelude.{◌≡◌, ◌<◌, ◌≤◌, ◌+◌, ◌*◌, ◌%◌, ◌^◌, All, pos, ◌+ℤ◌, ◌≤ℤ◌, ◌<ℤ◌, nat_abs, true, length, map, replicate, slice_index, IfOk, ◌==◌, Ok, Err, MatchResult};
+ghost use Rattle.std.specs.Prelude.{◌≡◌, ◌<◌, ◌≤◌, ◌+◌, ◌*◌, ◌%◌, ◌^◌, All, pos, ◌+ℤ◌, ◌≤ℤ◌, ◌<ℤ◌, nat_abs, true, length, map, replicate, slice_index, IfOk, ◌==◌, Ok};
 ghost use Rattle.std.specs.List.{list_any};
 
 use pybuf_desc::{BufferDescriptor, KeptFormat};
@@ -104,7 +104,7 @@ impl KeptLayout {
     ghost use Rattle.pybuf_memoryview.specs.Orders.{nbytes_of, has_zero_entry};
     ghost use Rattle.std.specs.Prelude.{false};
     ghost use Rattle.pybuf_memoryview.specs.Keys.{item_at_indices};
-    ghost use Rattle.pybuf_memoryview.specs.KeyPlaces.{IsStartOf};
+    ghost use Rattle.pybuf_memoryview.specs.KeyPlaces.{IsStartOf, GivesStartOf};
 
     /// The layout that a descriptor stands for where the first item starts at this place. Takes no
     /// memory.
@@ -318,7 +318,7 @@ impl KeptLayout {
     /// Refused with `IndexError` where an index is out of bounds.
     pub(crate) fn place_at(&self, indices: &[isize]) -> Result<usize, Fault>
         requires { length indices.now ≡ length self.now.shape }
-        ensures { MatchResult result (λ place. IsStartOf self.now (item_at_indices self.now.shape indices.now) place) (λ fault. item_at_indices self.now.shape indices.now ≡ Err fault) }
+        ensures { GivesStartOf self.now (item_at_indices self.now.shape indices.now) result }
     {
         pybuf_desc::placed_descriptors_stand();
         pybuf_desc::positions_are_places();

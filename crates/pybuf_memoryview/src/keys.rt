@@ -1,5 +1,5 @@
 //! Which item of a view a key names, and where that item lies.
-ghost use Rattle.std.specs.Prelude.{◌≡◌, ◌≤◌, ◌+ℤ◌, pos, nat_abs, true, length, map, take, Ok, MatchResult};
+ghost use Rattle.std.specs.Prelude.{◌≡◌, ◌≤◌, ◌+ℤ◌, pos, nat_abs, true, length, map, take, Ok};
 ghost use Rattle.std.specs.List.{list_all};
 ghost use Rattle.pybuf_memoryview.specs.Keys as spec;
 ghost use Rattle.pybuf_memoryview.specs.KeyPlaces as places;
@@ -76,7 +76,7 @@ pub fn names_itself(layout: &KeptLayout, key: &Value) -> bool
 /// Refused with `TypeError` where the key is neither `()` nor `...`.
 fn place_of_only(layout: &KeptLayout, key: &Value) -> Result<usize, Fault>
     requires { length layout.now.shape ≡ 0 }
-    ensures { MatchResult result (λ place. places.IsStartOf layout.now (spec.only_item key.now) place) (λ fault. spec.only_item key.now ≡ Err fault) }
+    ensures { places.GivesStartOf layout.now (spec.only_item key.now) result }
 {
     match key {
         Value::Tuple(parts) => {
@@ -96,7 +96,7 @@ fn place_of_only(layout: &KeptLayout, key: &Value) -> Result<usize, Fault>
 /// fit `isize`, with `NotImplementedError` where the view isn't of one dimension, and with
 /// `IndexError` where it has no such item.
 fn place_of_index(layout: &KeptLayout, key: &Value) -> Result<usize, Fault>
-    ensures { MatchResult result (λ place. places.IsStartOf layout.now (spec.item_of_index layout.now.shape key.now) place) (λ fault. spec.item_of_index layout.now.shape key.now ≡ Err fault) }
+    ensures { places.GivesStartOf layout.now (spec.item_of_index layout.now.shape key.now) result }
 {
     let index = index_in(key)?;
     if layout.ndim() != 1 {
@@ -112,7 +112,7 @@ fn place_of_index(layout: &KeptLayout, key: &Value) -> Result<usize, Fault>
 /// `isize`, with `NotImplementedError` where there are fewer parts than dimensions, with `TypeError`
 /// where there are more, and with `IndexError` where a number names no entry of its dimension.
 fn place_of_tuple(layout: &KeptLayout, parts: &[Scalar]) -> Result<usize, Fault>
-    ensures { MatchResult result (λ place. places.IsStartOf layout.now (spec.item_of_tuple layout.now.shape parts.now) place) (λ fault. spec.item_of_tuple layout.now.shape parts.now ≡ Err fault) }
+    ensures { places.GivesStartOf layout.now (spec.item_of_tuple layout.now.shape parts.now) result }
 {
     if !are_numbers(parts) {
         return Err(Fault::Kind);
@@ -132,7 +132,7 @@ fn place_of_tuple(layout: &KeptLayout, parts: &[Scalar]) -> Result<usize, Fault>
 
 /// Where the item starts that a key of a view of one dimension or more names.
 fn place_among(layout: &KeptLayout, key: &Value) -> Result<usize, Fault>
-    ensures { MatchResult result (λ place. places.IsStartOf layout.now (spec.item_among layout.now.shape key.now) place) (λ fault. spec.item_among layout.now.shape key.now ≡ Err fault) }
+    ensures { places.GivesStartOf layout.now (spec.item_among layout.now.shape key.now) result }
 {
     match key {
         Value::Tuple(parts) => place_of_tuple(layout, parts.as_slice()),
@@ -157,7 +157,7 @@ fn place_among(layout: &KeptLayout, key: &Value) -> Result<usize, Fault>
 /// slices with `NotImplementedError`; and every other key with `TypeError`.
 /// Example: of items in the shape `[2, 3]`, one byte each from 0 on, the key `(1, 2)` gives 5.
 pub fn place_of_key(layout: &KeptLayout, key: &Value) -> Result<usize, Fault>
-    ensures { MatchResult result (λ place. places.IsStartOf layout.now (spec.item_of_key layout.now.shape key.now) place) (λ fault. spec.item_of_key layout.now.shape key.now ≡ Err fault) }
+    ensures { places.GivesStartOf layout.now (spec.item_of_key layout.now.shape key.now) result }
 {
     if layout.ndim() == 0 {
         return place_of_only(layout, key);

@@ -3,7 +3,7 @@ use Rattle.std.specs.Prelude.{◌≡◌, ℕ, List, map, Option, Some, None, Res
 use Rattle.pybuf_value.specs.declared.faults.Fault.{Fault}
 use Rattle.pybuf_value.specs.declared.faults.Fault.TheVariants as fault
 use Rattle.pybuf_value.specs.declared.halt.Halt.{Halt}
-use Rattle.pybuf_value.specs.declared.halt.Halt.TheVariants as halt
+use Rattle.pybuf_value.specs.Halting.{Answered}
 use Rattle.pybuf_value.specs.declared.snaps.Snap.{Snap}
 use Rattle.pybuf_value.specs.Snaps.{string_of_named}
 use Rattle.std.specs.Global.{Vec}
@@ -16,9 +16,7 @@ lent_option None = None
 
 -- a result is these bytes if any are wanted, or their refusal; if memory runs out, nothing is said
 abbrev pub LendsSome : Result (Option (List ℕ)) Fault → Result (Option Lent) Halt → Type 0
-LendsSome wanted (Ok l) = wanted ≡ Ok (lent_option l)
-LendsSome wanted (Err (halt.Refused f)) = wanted ≡ Err f
-LendsSome wanted (Err halt.NoMemory) = Unit {0}
+LendsSome wanted result = Answered result lent_option wanted
 
 -- the bytes of Python's `bytes` or `bytearray`; any other value is refused
 abbrev pub string_or : Option (List ℕ) → Result (List ℕ) Fault
@@ -31,12 +29,8 @@ string_named (Some snap) = string_or (string_of_named (Some snap))
 
 -- the same for bytes in a vector
 abbrev pub Reads : Result (List ℕ) Fault → Result (Vec ℕ) Halt → Type 0
-Reads wanted (Ok bytes) = wanted ≡ Ok bytes.items
-Reads wanted (Err (halt.Refused f)) = wanted ≡ Err f
-Reads wanted (Err halt.NoMemory) = Unit {0}
+Reads wanted result = Answered result (λ bytes. bytes.items) wanted
 
 -- the same for the bytes of many arguments
 abbrev pub LendsEach : Result (List (List ℕ)) Fault → Result (Vec Lent) Halt → Type 0
-LendsEach wanted (Ok lents) = wanted ≡ Ok (map lent_bytes lents.items)
-LendsEach wanted (Err (halt.Refused f)) = wanted ≡ Err f
-LendsEach wanted (Err halt.NoMemory) = Unit {0}
+LendsEach wanted result = Answered result (λ lents. map lent_bytes lents.items) wanted

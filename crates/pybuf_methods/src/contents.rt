@@ -1,5 +1,5 @@
 //! The bytes of arguments, lent from where they lie.
-ghost use Rattle.std.specs.Prelude.{◌≡◌, Ok, Err, Some, MatchResult, ℕ, List, [], Result};
+ghost use Rattle.std.specs.Prelude.{◌≡◌, Some, ℕ, List, [], Result};
 ghost use Rattle.std.specs.Option.{option_copied};
 ghost use Rattle.pybuf_value.specs.declared.faults.Fault as faults;
 ghost use Rattle.pybuf_value.specs.declared.snaps.Snap.{Snap};
@@ -9,6 +9,7 @@ ghost use Rattle.pybuf_shaping.specs.Arguments as fills;
 ghost use Rattle.pybuf_methods.specs.Given as spec;
 ghost use Rattle.pybuf_value.specs.Lent.{Lends, kind_of_named};
 ghost use Rattle.pybuf_methods.specs.Lent.{LendsSome, Reads, string_named};
+ghost use Rattle.pybuf_value.specs.Halting.{GivesLent, GivesLentOption};
 
 use pybuf_value::{
     Fault, Halt, Lender, Lent, Outcome, Scalar, SnapKind, SnapList, Value, bytes_from_object,
@@ -36,7 +37,7 @@ pub trait Contents {
     ///
     /// Example: of a handle of the bytearray `b"ab"` it is `Ok(b"ab")`, and of one of an iterator it is `Err(Fault::Kind)`.
     fn run(&self, handle: u64) -> Result<&[u8], Fault>
-        ensures { MatchResult result (λ bytes. content_of (snap_of (pairs self.now) handle) ≡ Ok bytes.now) (λ fault. content_of (snap_of (pairs self.now) handle) ≡ Err fault) };
+        ensures { GivesLent (content_of (snap_of (pairs self.now) handle)) result };
 
     /// The bytes of what a handle names. They are copied only where they lie apart.
     ///
@@ -164,7 +165,7 @@ pub(crate) fn bytes_given<'a, N: Contents>(
 
 /// The bytes of a bytes value, of an exporter, or of a view whose items lie one after another, lent.
 pub(crate) fn like_in<'a, N: Contents>(value: &'a Value, names: &'a N) -> Result<&'a [u8], Fault>
-    ensures { MatchResult result (λ bytes. like_in (N.pairs names.now) value.now ≡ Ok bytes.now) (λ fault. like_in (N.pairs names.now) value.now ≡ Err fault) }
+    ensures { GivesLent (like_in (N.pairs names.now) value.now) result }
 {
     match value {
         Value::One(Scalar::Bytes(bytes)) => Ok(bytes.as_slice()),
@@ -175,7 +176,7 @@ pub(crate) fn like_in<'a, N: Contents>(value: &'a Value, names: &'a N) -> Result
 
 /// The bytes of an exporter of kind bytes, lent.
 fn alone<N: Contents>(names: &N, handle: u64) -> Result<&[u8], Fault>
-    ensures { MatchResult result (λ bytes. content_of_bytes (snap_of (N.pairs names.now) handle) ≡ Ok bytes.now) (λ fault. content_of_bytes (snap_of (N.pairs names.now) handle) ≡ Err fault) }
+    ensures { GivesLent (content_of_bytes (snap_of (N.pairs names.now) handle)) result }
 {
     match names.kind(handle) {
         None => Err(Fault::UnknownName),
@@ -186,7 +187,7 @@ fn alone<N: Contents>(names: &N, handle: u64) -> Result<&[u8], Fault>
 
 /// The bytes of a text, of a bytes value, or of an exporter of kind bytes, lent.
 fn separator_in<'a, N: Contents>(value: &'a Value, names: &'a N) -> Result<&'a [u8], Fault>
-    ensures { MatchResult result (λ bytes. spec.separator_in (N.pairs names.now) value.now ≡ Ok bytes.now) (λ fault. spec.separator_in (N.pairs names.now) value.now ≡ Err fault) }
+    ensures { GivesLent (spec.separator_in (N.pairs names.now) value.now) result }
 {
     match value {
         Value::One(Scalar::Text(text)) => Ok(text.as_slice()),
@@ -201,7 +202,7 @@ pub fn separator_given<'a, N: Contents>(
     value: Option<&'a Value>,
     names: &'a N,
 ) -> Result<Option<&'a [u8]>, Fault>
-    ensures { MatchResult result (λ bytes. spec.separator_given (N.pairs names.now) (option_copied value.entry) ≡ Ok (option_copied bytes)) (λ fault. spec.separator_given (N.pairs names.now) (option_copied value.entry) ≡ Err fault) }
+    ensures { GivesLentOption (spec.separator_given (N.pairs names.now) (option_copied value.entry)) result }
 {
     match value {
         None => Ok(None),
@@ -214,7 +215,7 @@ pub fn separator_given<'a, N: Contents>(
 
 /// The bytes of what is Python's `bytes` or `bytearray`, lent.
 fn string_of<N: Contents>(names: &N, handle: u64) -> Result<&[u8], Fault>
-    ensures { MatchResult result (λ bytes. string_named (snap_of (N.pairs names.now) handle) ≡ Ok bytes.now) (λ fault. string_named (snap_of (N.pairs names.now) handle) ≡ Err fault) }
+    ensures { GivesLent (string_named (snap_of (N.pairs names.now) handle)) result }
 {
     match names.kind(handle) {
         None => Err(Fault::UnknownName),

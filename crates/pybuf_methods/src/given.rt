@@ -1,9 +1,10 @@
 //! The arguments that a call is given: how many there are, and what each stands for.
-ghost use Rattle.std.specs.Prelude.{◌≡◌, Ok, Err, IfOk, IfErr, MatchResult};
+ghost use Rattle.std.specs.Prelude.{◌≡◌, Ok, IfOk, IfErr};
 ghost use Rattle.std.specs.Option.{option_copied};
 ghost use Rattle.pybuf_value.specs.declared.faults.Outcome.TheVariants as outcomes;
 ghost use Rattle.pybuf_methods.specs.Given as spec;
 ghost use Rattle.pybuf_methods.specs.Given.{IsStopped};
+ghost use Rattle.pybuf_value.specs.Halting.{AnsweredAtOnce, GivesLent, GivesLentOption};
 
 use pybuf_value::{Answer, Fault, Halt, Scalar, Tried, Value, index_of, text_in};
 
@@ -27,7 +28,7 @@ pub(crate) fn none(args: &[Value]) -> Result<(), Fault>
 
 /// One argument.
 pub(crate) fn one(args: &[Value]) -> Result<&Value, Fault>
-    ensures { MatchResult result (λ a. spec.one args.now ≡ Ok a.now) (λ fault. spec.one args.now ≡ Err fault) }
+    ensures { GivesLent (spec.one args.now) result }
 {
     match args {
         [a] => Ok(a),
@@ -37,7 +38,7 @@ pub(crate) fn one(args: &[Value]) -> Result<&Value, Fault>
 
 /// Two arguments.
 pub(crate) fn two(args: &[Value]) -> Result<(&Value, &Value), Fault>
-    ensures { MatchResult result (λ given. spec.two args.now ≡ Ok (given.0.now, given.1.now)) (λ fault. spec.two args.now ≡ Err fault) }
+    ensures { AnsweredAtOnce result (λ given. (given.0.now, given.1.now)) (spec.two args.now) }
 {
     match args {
         [a, b] => Ok((a, b)),
@@ -47,7 +48,7 @@ pub(crate) fn two(args: &[Value]) -> Result<(&Value, &Value), Fault>
 
 /// One argument, or none.
 pub(crate) fn at_most_one(args: &[Value]) -> Result<Option<&Value>, Fault>
-    ensures { MatchResult result (λ given. spec.at_most_one args.now ≡ Ok (option_copied given)) (λ fault. spec.at_most_one args.now ≡ Err fault) }
+    ensures { GivesLentOption (spec.at_most_one args.now) result }
 {
     match args {
         [] => Ok(None),
@@ -58,7 +59,7 @@ pub(crate) fn at_most_one(args: &[Value]) -> Result<Option<&Value>, Fault>
 
 /// Two arguments, or fewer.
 pub(crate) fn at_most_two(args: &[Value]) -> Result<(Option<&Value>, Option<&Value>), Fault>
-    ensures { MatchResult result (λ given. spec.at_most_two args.now ≡ Ok (option_copied given.0, option_copied given.1)) (λ fault. spec.at_most_two args.now ≡ Err fault) }
+    ensures { AnsweredAtOnce result (λ given. (option_copied given.0, option_copied given.1)) (spec.at_most_two args.now) }
 {
     match args {
         [] => Ok((None, None)),
@@ -70,7 +71,7 @@ pub(crate) fn at_most_two(args: &[Value]) -> Result<(Option<&Value>, Option<&Val
 
 /// One argument, or two.
 pub(crate) fn one_or_two(args: &[Value]) -> Result<(&Value, Option<&Value>), Fault>
-    ensures { MatchResult result (λ given. spec.one_or_two args.now ≡ Ok (given.0.now, option_copied given.1)) (λ fault. spec.one_or_two args.now ≡ Err fault) }
+    ensures { AnsweredAtOnce result (λ given. (given.0.now, option_copied given.1)) (spec.one_or_two args.now) }
 {
     match args {
         [a] => Ok((a, None)),
@@ -81,7 +82,7 @@ pub(crate) fn one_or_two(args: &[Value]) -> Result<(&Value, Option<&Value>), Fau
 
 /// Two arguments, or three.
 pub(crate) fn two_or_three(args: &[Value]) -> Result<(&Value, &Value, Option<&Value>), Fault>
-    ensures { MatchResult result (λ given. spec.two_or_three args.now ≡ Ok (given.0.now, given.1.now, option_copied given.2)) (λ fault. spec.two_or_three args.now ≡ Err fault) }
+    ensures { AnsweredAtOnce result (λ given. (given.0.now, given.1.now, option_copied given.2)) (spec.two_or_three args.now) }
 {
     match args {
         [a, b] => Ok((a, b, None)),
@@ -94,7 +95,7 @@ pub(crate) fn two_or_three(args: &[Value]) -> Result<(&Value, &Value, Option<&Va
 pub(crate) fn one_to_three(
     args: &[Value],
 ) -> Result<(&Value, Option<&Value>, Option<&Value>), Fault>
-    ensures { MatchResult result (λ given. spec.one_to_three args.now ≡ Ok (given.0.now, option_copied given.1, option_copied given.2)) (λ fault. spec.one_to_three args.now ≡ Err fault) }
+    ensures { AnsweredAtOnce result (λ given. (given.0.now, option_copied given.1, option_copied given.2)) (spec.one_to_three args.now) }
 {
     match args {
         [a] => Ok((a, None, None)),
@@ -133,7 +134,7 @@ pub(crate) fn flag_given(value: Option<&Value>) -> Result<bool, Fault>
 
 /// A text, where one is given that isn't Python's `None`, lent.
 pub(crate) fn text_given(value: Option<&Value>) -> Result<Option<&pybuf_value::Text>, Fault>
-    ensures { MatchResult result (λ text. spec.text_given (option_copied value.entry) ≡ Ok (option_copied text)) (λ fault. spec.text_given (option_copied value.entry) ≡ Err fault) }
+    ensures { GivesLentOption (spec.text_given (option_copied value.entry)) result }
 {
     match value {
         None => Ok(None),

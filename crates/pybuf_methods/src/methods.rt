@@ -1,6 +1,6 @@
 //! A method, called by its name.
-ghost use Rattle.std.specs.Prelude.{◌≡◌, IfOk};
-ghost use Rattle.pybuf_value.specs.Halting.{Gives, outcome_of};
+ghost use Rattle.std.specs.Prelude.{◌≡◌};
+ghost use Rattle.pybuf_value.specs.Halting.{Gives, GivesOutcome};
 ghost use Rattle.pybuf_methods.specs.Methods.{method_reply};
 
 use crate::contents::{ByLender, Contents};
@@ -90,7 +90,7 @@ pub fn apply_method<L: Lender>(
     call: &MethodCall,
     lender: &L,
 ) -> Tried<MethodReply>
-    ensures { IfOk result (λ outcome. outcome ≡ outcome_of (method_reply (L.pairs lender.now) bytes.now call.now.name call.now.args)) }
+    ensures { GivesOutcome (method_reply (L.pairs lender.now) bytes.now call.now.name call.now.args) result }
 {
     let names = ByLender { lender };
     tried(reply_of(alloc, bytes, call.name, call.args.as_slice(), &names))

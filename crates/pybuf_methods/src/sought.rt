@@ -1,6 +1,6 @@
 //! Methods that search.
-ghost use Rattle.std.specs.Prelude.{◌≡◌, ◌∷◌, [], length, Ok, Err, MatchResult};
-ghost use Rattle.pybuf_value.specs.Halting.{Gives};
+ghost use Rattle.std.specs.Prelude.{◌≡◌, ◌∷◌, [], length, Ok};
+ghost use Rattle.pybuf_value.specs.Halting.{Gives, AnsweredAtOnce};
 ghost use Rattle.pybuf_search.specs.Bounds.{adjusted};
 ghost use Rattle.pybuf_search.specs.Ranges.{place_in_range, number_in_range};
 ghost use Rattle.pybuf_search.specs.Places as places;
@@ -192,7 +192,7 @@ pub(crate) fn count<N: Contents>(
 
 /// An affix, which isn't read yet, and two bounds.
 fn affix_given(args: &[Value]) -> Result<(&Value, Option<i128>, Option<i128>), Fault>
-    ensures { MatchResult result (λ given. spec.affix_given args.now ≡ Ok (given.0.now, given.1, given.2)) (λ fault. spec.affix_given args.now ≡ Err fault) }
+    ensures { AnsweredAtOnce result (λ given. (given.0.now, given.1, given.2)) (spec.affix_given args.now) }
 {
     let (affix, start, end) = one_to_three(args)?;
     let start = bound_given(start)?;

@@ -1,5 +1,5 @@
 -- Edits of lists.
-use Rattle.std.specs.Prelude.{◌≡◌, ⊤, ℕ, zero, suc, ◌*◌, ◌^◌, ◌==◌, ◌≤◌, Bool, true, false, ℤ, pos, negsuc, List, [], ◌∷◌, ◌++◌, length, take, drop, slice_set, nat_lt, if◌then◌else◌, Option, None, Some, Result, Ok, Err}
+use Rattle.std.specs.Prelude.{◌≡◌, ⊤, ℕ, zero, suc, ◌*◌, ◌^◌, ◌==◌, ◌≤◌, Bool, true, false, ℤ, pos, negsuc, List, [], ◌∷◌, ◌++◌, length, take, drop, slice_set, nat_lt, if◌then◌else◌, Option, None, Some, Result, Ok, Err, IfOk}
 use Rattle.std.specs.List.{AllZip}
 use Rattle.std.specs.Global.{Vec}
 use Rattle.pybuf_value.specs.declared.faults.Fault.{Fault}
@@ -9,6 +9,7 @@ use Rattle.pybuf_value.specs.declared.faults.Outcome.TheVariants as outcome
 use Rattle.pybuf_value.specs.Numbers.{times}
 use Rattle.pybuf_index.specs.Parts.{SliceParts, picks_of}
 use Rattle.pybuf_index.specs.Runs.{span_start, span_end}
+use Rattle.std.specs.declared.ops.Range.{Range}
 
 -- a list with other elements in place of those of a range
 abbrev pub replaced_range : {X : Type 0} → List X → ℕ → ℕ → List X → List X
@@ -110,3 +111,38 @@ SameLists R (outcome.Done items) (outcome.Refused f) = ⊥
 abbrev pub IsRepeated : {X : Type 0} → (X → X → Type 0) → List X → ℕ → List X → Type 0
 IsRepeated R items zero new = new ≡ []
 IsRepeated {X} R items (suc n) new = (copies : List X) × (new ≡ items ++ copies) × AllZip R (repeated_list n items) copies
+
+-- ---- edits that copy what they are given, where R holds of an element and its copy
+
+-- copies of the items stand in place of the elements of a range
+abbrev pub ReplacesRange : {X : Type 0} → (X → X → Type 0) → List X → Range ℕ → List X → List X → Type 0
+ReplacesRange {X} R items range old new = (copies : List X) × AllZip R items copies × (new ≡ replaced_range old range.start range.end copies)
+
+-- copies of the items stand at the indices
+abbrev pub SetsIndices : {X : Type 0} → (X → X → Type 0) → List X → List ℕ → List X → List X → Type 0
+SetsIndices {X} R items indices old new = (copies : List X) × AllZip R items copies × (new ≡ set_at old indices copies)
+
+-- one fact where memory sufficed and an edit was made, another where it was refused
+abbrev pub OnOutcome : {A E : Type 0} → Result (Outcome A) E → Type 0 → Type 0 → Type 0
+OnOutcome result Made Kept = IfOk result (λ given. MatchOutcome given Made Kept)
+
+-- copies of the items stand in place of the elements of a slice; after a refusal the list is as before
+abbrev pub Assigns : {X A E : Type 0} → Result (Outcome A) E → (X → X → Type 0) → List X → SliceParts → List X → List X → Type 0
+Assigns {X} result R items slice old new =
+    OnOutcome result ((copies : List X) × AllZip R items copies × (new ≡ assigned_list old slice copies)) (new ≡ old)
+
+-- the same of an edit that leaves the length as it is
+abbrev pub AssignsPicks : {X A E : Type 0} → Result (Outcome A) E → (X → X → Type 0) → List X → SliceParts → List X → List X → Type 0
+AssignsPicks result R items slice old new = OnOutcome result (SetsIndices R items (picks_of (length old) slice) old new) (new ≡ old)
+
+-- the list stands there so many times; after a refusal it is as before
+abbrev pub Repeats : {X A E : Type 0} → Result (Outcome A) E → (X → X → Type 0) → ℕ → List X → List X → Type 0
+Repeats result R count old new = OnOutcome result (IsRepeated R old count new) (new ≡ old)
+
+-- a slice of a list of this length takes as many elements as it has indices
+abbrev pub pick_answer : Fault → ℕ → SliceParts → ℕ → Outcome (Unit {0})
+pick_answer refusal n parts count = done_if_equal refusal (length (picks_of n parts)) count
+
+-- the elements that a slice doesn't pick, in order
+abbrev pub picks_off : {X : Type 0} → List X → SliceParts → List X
+picks_off items parts = elements_off items (picks_of (length items) parts)

@@ -1,12 +1,12 @@
 //! Sequences that are edited by indices.
-ghost use Rattle.std.specs.Prelude.{◌≡◌, ◌+◌, ◌*◌, ◌<◌, ◌≤◌, ◌^◌, List, [], ◌∷◌, length, All, IfOk, OnOk, OnErr, Result, Option, slice_set};
-ghost use Rattle.std.specs.List.{AllZip};
+ghost use Rattle.std.specs.Prelude.{◌≡◌, ◌+◌, ◌*◌, ◌<◌, ◌≤◌, ◌^◌, [], ◌∷◌, length, All, IfOk, OnOk, OnErr, Result, Option, slice_set};
 ghost use Rattle.std.specs.List.Sorted.{IsStrictlyIncreasing};
 ghost use Rattle.pybuf_value.specs.declared.faults.Fault.TheVariants as fault;
-ghost use Rattle.pybuf_index.specs.Parts.{SliceParts, picks_of};
+ghost use Rattle.pybuf_index.specs.Parts.{SliceParts};
 ghost use Rattle.pybuf_index.specs.Places.{item_place};
 ghost use Rattle.pybuf_value.specs.Numbers.{times};
-ghost use Rattle.pybuf_slice.specs.Edits.{replaced_range, set_at, elements_off, named_or_index_error, set_if_named, deleted_if_named, done_if_equal, assign_answer, assigned_list, MatchOutcome, repeat_answer, fits_answer, SameLists, IsRepeated};
+ghost use Rattle.pybuf_slice.specs.Edits.{replaced_range, elements_off, named_or_index_error, set_if_named, deleted_if_named, assign_answer, repeat_answer, fits_answer, SameLists, ReplacesRange, SetsIndices, Assigns, pick_answer, picks_off, Repeats};
+ghost use Rattle.pybuf_value.specs.Halting.{Makes};
 
 use crate::sequence::SliceableSequenceOp;
 use crate::{edits, repeats, slices};
@@ -43,7 +43,7 @@ pub trait SliceableSequenceMutOp: SliceableSequenceOp {
     fn do_set_range(&mut self, alloc: Global, range: Range<usize>, items: &[Self::Item]) -> Made<()>
         requires ordered { range.start ≤ range.end }
         requires inside { range.end ≤ length (Self.elements self.old) }
-        ensures ok { OnOk result ((copies : List Self.Item) × AllZip Self.Item.same items.now copies × (Self.elements self.new ≡ replaced_range (Self.elements self.old) range.start range.end copies)) }
+        ensures ok { OnOk result (ReplacesRange Self.Item.same items.now range (Self.elements self.old) (Self.elements self.new)) }
         ensures err { OnErr result (Self.elements self.new ≡ Self.elements self.old) };
 
     /// Takes the elements of a range out.
@@ -67,7 +67,7 @@ pub trait SliceableSequenceMutOp: SliceableSequenceOp {
     ) -> Made<()>
         requires count { length indexes ≡ length items.now }
         requires inside { All (λ i. i < length (Self.elements self.old)) indexes }
-        ensures ok { OnOk result ((copies : List Self.Item) × AllZip Self.Item.same items.now copies × (Self.elements self.new ≡ set_at (Self.elements self.old) indexes copies)) }
+        ensures ok { OnOk result (SetsIndices Self.Item.same items.now indexes (Self.elements self.old) (Self.elements self.new)) }
         ensures err { OnErr result (Self.elements self.new ≡ Self.elements self.old) };
 
     /// Takes the elements at rising indices of a range out.
@@ -117,8 +117,8 @@ pub trait SliceableSequenceMutOp: SliceableSequenceOp {
         items: &[Self::Item],
     ) -> Tried<()>
         requires { length (Self.elements self.old) < 2 ^ 63 }
-        ensures answer { IfOk result (λ outcome. outcome ≡ assign_answer (length (Self.elements self.old)) slice (length items.now)) }
-        ensures change { IfOk result (λ outcome. MatchOutcome outcome ((copies : List Self.Item) × AllZip Self.Item.same items.now copies × (Self.elements self.new ≡ assigned_list (Self.elements self.old) slice copies)) (Self.elements self.new ≡ Self.elements self.old)) }
+        ensures answer { Makes (assign_answer (length (Self.elements self.old)) slice (length items.now)) result }
+        ensures change { Assigns result Self.Item.same items.now slice (Self.elements self.old) (Self.elements self.new) }
         ensures memory { OnErr result (Self.elements self.new ≡ Self.elements self.old) };
 
     /// Puts copies of the items in place of as many elements of a slice.
@@ -134,8 +134,8 @@ pub trait SliceableSequenceMutOp: SliceableSequenceOp {
         items: &[Self::Item],
     ) -> Tried<()>
         requires { length (Self.elements self.old) < 2 ^ 63 }
-        ensures answer { IfOk result (λ outcome. outcome ≡ done_if_equal fault.Buffer (length (picks_of (length (Self.elements self.old)) slice)) (length items.now)) }
-        ensures change { IfOk result (λ outcome. MatchOutcome outcome ((copies : List Self.Item) × AllZip Self.Item.same items.now copies × (Self.elements self.new ≡ assigned_list (Self.elements self.old) slice copies)) (Self.elements self.new ≡ Self.elements self.old)) }
+        ensures answer { Makes (pick_answer fault.Buffer (length (Self.elements self.old)) slice (length items.now)) result }
+        ensures change { Assigns result Self.Item.same items.now slice (Self.elements self.old) (Self.elements self.new) }
         ensures memory { OnErr result (Self.elements self.new ≡ Self.elements self.old) };
 
     /// Takes the elements at the indices of a slice out. Takes no memory.
@@ -143,7 +143,7 @@ pub trait SliceableSequenceMutOp: SliceableSequenceOp {
     /// Example: with the slice `::2` the elements 1, 2, 3 become 2.
     fn delitem_by_slice(&mut self, slice: SaturatedSlice)
         requires { length (Self.elements self.old) < 2 ^ 63 }
-        ensures { Self.elements self.new ≡ elements_off (Self.elements self.old) (picks_of (length (Self.elements self.old)) slice) };
+        ensures { Self.elements self.new ≡ picks_off (Self.elements self.old) slice };
 }
 
 impl<T: Twin> SliceableSequenceMutOp for Vec<T> {
@@ -243,8 +243,8 @@ pub trait SequenceMutExt: SliceableSequenceOp {
     /// Example: with 2 the elements 1, 2 become 1, 2, 1, 2, and with 0 there are none.
     fn imul(&mut self, alloc: Global, n: isize) -> Tried<()>
         requires { length (Self.elements self.old) < 2 ^ 63 }
-        ensures answer { IfOk result (λ outcome. outcome ≡ fits_answer (length (Self.elements self.old) * times n)) }
-        ensures change { IfOk result (λ outcome. MatchOutcome outcome (IsRepeated Self.Item.same (Self.elements self.old) (times n) (Self.elements self.new)) (Self.elements self.new ≡ Self.elements self.old)) }
+        ensures answer { Makes (fits_answer (length (Self.elements self.old) * times n)) result }
+        ensures change { Repeats result Self.Item.same (times n) (Self.elements self.old) (Self.elements self.new) }
         ensures memory { OnErr result (Self.elements self.new ≡ Self.elements self.old) };
 }
 

@@ -1,11 +1,11 @@
 //! Edits of lists by indices and slices. Elements that stay are the very same, and elements that come
 //! from a slice are copies. After a refusal, or where memory runs out, the list is as before.
-ghost use Rattle.std.specs.Prelude.{◌≡◌, ◌+◌, ◌<◌, ◌≤◌, ◌^◌, ℕ, List, [], ◌∷◌, length, All, IfOk, OnOk, OnErr, Result, Option};
-ghost use Rattle.std.specs.List.{AllZip};
+ghost use Rattle.std.specs.Prelude.{◌≡◌, ◌+◌, ◌<◌, ◌≤◌, ◌^◌, ℕ, [], ◌∷◌, length, All, OnOk, OnErr, Result, Option};
 ghost use Rattle.std.specs.List.Sorted.{IsStrictlyIncreasing};
-ghost use Rattle.pybuf_index.specs.Parts.{SliceParts, picks_of};
+ghost use Rattle.pybuf_index.specs.Parts.{SliceParts};
 ghost use Rattle.pybuf_index.specs.Places.{item_place};
-ghost use Rattle.pybuf_slice.specs.Edits.{replaced_range, elements_off, named_or_index_error, deleted_if_named, assign_answer, assigned_list, has, IsRisingFrom, MatchOutcome};
+ghost use Rattle.pybuf_slice.specs.Edits.{replaced_range, elements_off, named_or_index_error, deleted_if_named, assign_answer, has, IsRisingFrom, ReplacesRange, Assigns, picks_off};
+ghost use Rattle.pybuf_value.specs.Halting.{Makes};
 
 use crate::slices;
 use pybuf_index::{SaturatedSlice, SaturatedSliceIter, indices_of_a_span};
@@ -30,7 +30,7 @@ pub(crate) fn do_set_range<T: Twin>(
 ) -> Made<()>
     requires ordered { range.start ≤ range.end }
     requires inside { range.end ≤ length list.old.items }
-    ensures ok { OnOk result ((copies : List T) × AllZip T.same items.now copies × (list.new.items ≡ replaced_range list.old.items range.start range.end copies)) }
+    ensures ok { OnOk result (ReplacesRange T.same items.now range list.old.items list.new.items) }
     ensures err { OnErr result (list.new.items ≡ list.old.items) }
 {
     if range.end - range.start == items.len() {
@@ -49,7 +49,7 @@ fn write_range<T: Twin>(
 ) -> Made<()>
     requires inside { range.end ≤ length list.old.items }
     requires fits { range.start + length items.now ≡ range.end }
-    ensures ok { OnOk result ((copies : List T) × AllZip T.same items.now copies × (list.new.items ≡ replaced_range list.old.items range.start range.end copies)) }
+    ensures ok { OnOk result (ReplacesRange T.same items.now range list.old.items list.new.items) }
     ensures err { OnErr result (list.new.items ≡ list.old.items) }
 {
     T::write_copies(alloc, items, list.slice_mut(range))
@@ -160,8 +160,8 @@ pub(crate) fn setitem_by_slice<T: Twin>(
     items: &[T],
 ) -> Tried<()>
     requires { length list.old.items < 2 ^ 63 }
-    ensures answer { IfOk result (λ outcome. outcome ≡ assign_answer (length list.old.items) slice (length items.now)) }
-    ensures change { IfOk result (λ outcome. MatchOutcome outcome ((copies : List T) × AllZip T.same items.now copies × (list.new.items ≡ assigned_list list.old.items slice copies)) (list.new.items ≡ list.old.items)) }
+    ensures answer { Makes (assign_answer (length list.old.items) slice (length items.now)) result }
+    ensures change { Assigns result T.same items.now slice list.old.items list.new.items }
     ensures memory { OnErr result (list.new.items ≡ list.old.items) }
 {
     let (range, step, count) = slice.adjust_indices(list.len());
@@ -182,7 +182,7 @@ pub(crate) fn setitem_by_slice<T: Twin>(
 /// Takes the elements at the indices of a slice out of the list. Takes no memory.
 pub(crate) fn delitem_by_slice<T: Twin>(list: &mut Vec<T>, slice: SaturatedSlice)
     requires { length list.old.items < 2 ^ 63 }
-    ensures { list.new.items ≡ elements_off list.old.items (picks_of (length list.old.items) slice) }
+    ensures { list.new.items ≡ picks_off list.old.items slice }
 {
     let left = close_up(list.as_mut_slice(), slice);
     do_delete_range(list, left);
@@ -195,7 +195,7 @@ pub(crate) fn delitem_by_slice<T: Twin>(list: &mut Vec<T>, slice: SaturatedSlice
 /// Example: with the slice `0:3:2` of 1, 2, 3, 4 the answer is `1..3`, and the items off that range are then 2 and 4.
 pub fn close_up<T: Twin>(items: &mut [T], slice: SaturatedSlice) -> Range<usize>
     requires { length items.old < 2 ^ 63 }
-    ensures list { replaced_range items.new result.start result.end [] ≡ elements_off items.old (picks_of (length items.old) slice) }
+    ensures list { replaced_range items.new result.start result.end [] ≡ picks_off items.old slice }
     ensures ordered { result.start ≤ result.end }
     ensures inside { result.end ≤ length items.old }
     ensures length { length items.new ≡ length items.old }

@@ -1,8 +1,9 @@
 //! A list so many times.
 ghost use Rattle.std.specs.Prelude.{◌≡◌, ◌<◌, ◌*◌, ◌^◌, List, length, IfOk, OnOk, OnErr, Option};
-ghost use Rattle.std.specs.List.{AllZip};
 ghost use Rattle.pybuf_value.specs.Numbers.{times};
-ghost use Rattle.pybuf_slice.specs.Edits.{repeated_list, times_that_fit, SameLists, IsRepeated, MatchOutcome, repeat_answer, fits_answer};
+ghost use Rattle.pybuf_slice.specs.Edits.{repeated_list, times_that_fit, SameLists, IsRepeated, repeat_answer, fits_answer, Repeats};
+ghost use Rattle.pybuf_slice.specs.Reads.{MakesCopies};
+ghost use Rattle.pybuf_value.specs.Halting.{Makes};
 
 use pybuf_value::{Fault, Made, Outcome, Tried, Twin};
 use std::alloc::Global;
@@ -28,7 +29,7 @@ fn times_of(len: usize, n: isize) -> Option<usize>
 /// Copies of the items, so many times one after another. Room for all is taken at once.
 fn copies_of<T: Twin>(alloc: Global, items: &[T], times: usize) -> Made<Vec<T>>
     requires { length items.now * times < 2 ^ 63 }
-    ensures { IfOk result (λ list. AllZip T.same (repeated_list times items.now) list.items) }
+    ensures { MakesCopies T.same (repeated_list times items.now) result }
 {
     let mut list = Vec::with_capacity(alloc, items.len() * times)?;
     // If there are no items, nothing is left to do, however often they are repeated.
@@ -66,8 +67,8 @@ pub(crate) fn mul<T: Twin>(alloc: Global, items: &[T], n: isize) -> Tried<Vec<T>
 /// refusal, or where memory runs out, the list is as before.
 pub(crate) fn imul<T: Twin>(list: &mut Vec<T>, alloc: Global, n: isize) -> Tried<()>
     requires { length list.old.items < 2 ^ 63 }
-    ensures answer { IfOk result (λ outcome. outcome ≡ fits_answer (length list.old.items * times n)) }
-    ensures change { IfOk result (λ outcome. MatchOutcome outcome (IsRepeated T.same list.old.items (times n) list.new.items) (list.new.items ≡ list.old.items)) }
+    ensures answer { Makes (fits_answer (length list.old.items * times n)) result }
+    ensures change { Repeats result T.same (times n) list.old.items list.new.items }
     ensures memory { OnErr result (list.new.items ≡ list.old.items) }
 {
     match times_of(list.len(), n) {

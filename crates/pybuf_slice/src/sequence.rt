@@ -1,10 +1,8 @@
 //! Reading a sequence by indices.
 ghost use Rattle.std.specs.Prelude.{◌≡◌, ◌<◌, ◌≤◌, ◌^◌, ℕ, ℤ, List, [], length, reverse, IfOk, OnErr, IsSome, IsSomeAnd, true, false, slice_get, slice_range};
-ghost use Rattle.pybuf_index.specs.Parts.{SliceParts, picks_of};
+ghost use Rattle.pybuf_index.specs.Parts.{SliceParts};
 ghost use Rattle.pybuf_index.specs.Places.{saturated_place, item_place};
-ghost use Rattle.pybuf_index.specs.Runs.{picks_in_span, signed_step};
-ghost use Rattle.std.specs.List.{AllZip};
-ghost use Rattle.pybuf_slice.specs.Reads.{elements_at, item_at, SameOutcome};
+ghost use Rattle.pybuf_slice.specs.Reads.{item_at, SameOutcome, picked_elements, stepped_elements, MakesCopies};
 
 use crate::slices;
 use pybuf_index::SaturatedSlice;
@@ -34,7 +32,7 @@ pub trait SliceableSequenceOp: Sized {
     fn do_slice(&self, alloc: Global, range: Range<usize>) -> Made<Vec<Self::Item>>
         requires ordered { range.start ≤ range.end }
         requires inside { range.end ≤ length (elements self.now) }
-        ensures { IfOk result (λ list. AllZip Self.Item.same (slice_range (elements self.now) range.start range.end) list.items) };
+        ensures { MakesCopies Self.Item.same (slice_range (elements self.now) range.start range.end) result };
 
     /// The elements of a range, the last first.
     ///
@@ -42,7 +40,7 @@ pub trait SliceableSequenceOp: Sized {
     fn do_slice_reverse(&self, alloc: Global, range: Range<usize>) -> Made<Vec<Self::Item>>
         requires ordered { range.start ≤ range.end }
         requires inside { range.end ≤ length (elements self.now) }
-        ensures { IfOk result (λ list. AllZip Self.Item.same (reverse (slice_range (elements self.now) range.start range.end)) list.items) };
+        ensures { MakesCopies Self.Item.same (reverse (slice_range (elements self.now) range.start range.end)) result };
 
     /// Every `step`-th element of a range, from its first.
     ///
@@ -57,7 +55,7 @@ pub trait SliceableSequenceOp: Sized {
         requires inside { range.end ≤ length (elements self.now) }
         requires in_memory { length (elements self.now) < 2 ^ 63 }
         requires moves { 0 < step }
-        ensures { IfOk result (λ list. AllZip Self.Item.same (elements_at (elements self.now) (picks_in_span range.start range.end (signed_step false step))) list.items) };
+        ensures { MakesCopies Self.Item.same (stepped_elements (elements self.now) range false step) result };
 
     /// Every `step`-th element of a range, from its last down.
     ///
@@ -72,7 +70,7 @@ pub trait SliceableSequenceOp: Sized {
         requires inside { range.end ≤ length (elements self.now) }
         requires in_memory { length (elements self.now) < 2 ^ 63 }
         requires moves { 0 < step }
-        ensures { IfOk result (λ list. AllZip Self.Item.same (elements_at (elements self.now) (picks_in_span range.start range.end (signed_step true step))) list.items) };
+        ensures { MakesCopies Self.Item.same (stepped_elements (elements self.now) range true step) result };
 
     /// A vector without elements. Takes no memory.
     ///
@@ -105,7 +103,7 @@ pub trait SliceableSequenceOp: Sized {
     /// Example: of 1, 2, 3 and the slice `::-1` it gives 3, 2, 1.
     fn getitem_by_slice(&self, alloc: Global, slice: SaturatedSlice) -> Made<Vec<Self::Item>>
         requires { length (elements self.now) < 2 ^ 63 }
-        ensures { IfOk result (λ list. AllZip Self.Item.same (elements_at (elements self.now) (picks_of (length (elements self.now)) slice)) list.items) };
+        ensures { MakesCopies Self.Item.same (picked_elements (elements self.now) slice) result };
 
     /// A copy of the element that a number names; a negative number counts from the end.
     ///

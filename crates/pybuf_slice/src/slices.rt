@@ -1,12 +1,11 @@
 //! Reading and writing a slice of elements by indices. What is read and what is written are copies.
-ghost use Rattle.std.specs.Prelude.{◌≡◌, ◌≢◌, ◌<◌, ◌≤◌, ◌^◌, ℕ, List, [], length, reverse, All, IfOk, OnOk, OnErr, IsSome, IsSomeAnd, true, false, pos, slice_get, slice_set, slice_range, Result, Option};
+ghost use Rattle.std.specs.Prelude.{◌≡◌, ◌≢◌, ◌<◌, ◌≤◌, ◌^◌, ℕ, [], length, reverse, All, IfOk, OnOk, OnErr, IsSome, IsSomeAnd, true, false, pos, slice_get, slice_set, slice_range, Result, Option};
 ghost use Rattle.pybuf_value.specs.declared.faults.Fault.TheVariants as fault;
-ghost use Rattle.pybuf_slice.specs.Edits.{set_at, set_if_named, named_or_index_error, done_if_equal, assigned_list, MatchOutcome};
+ghost use Rattle.pybuf_slice.specs.Edits.{set_at, set_if_named, named_or_index_error, SetsIndices, Assigns, AssignsPicks, pick_answer};
 ghost use Rattle.pybuf_index.specs.Parts.{SliceParts, picks_of};
 ghost use Rattle.pybuf_index.specs.Places.{saturated_place, item_place};
-ghost use Rattle.pybuf_index.specs.Runs.{picks_in_span, signed_step};
-ghost use Rattle.std.specs.List.{AllZip};
-ghost use Rattle.pybuf_slice.specs.Reads.{elements_at, item_at, SameOutcome};
+ghost use Rattle.pybuf_slice.specs.Reads.{elements_at, item_at, SameOutcome, picked_elements, stepped_elements, MakesCopies};
+ghost use Rattle.pybuf_value.specs.Halting.{Makes};
 
 use pybuf_index::{
     SaturatedSlice, SaturatedSliceIter, SequenceIndexOp, indices_of_a_slice, indices_of_a_span,
@@ -31,7 +30,7 @@ pub fn do_get<T: Twin>(alloc: Global, items: &[T], index: usize) -> Made<T>
 pub fn do_slice<T: Twin>(alloc: Global, items: &[T], range: Range<usize>) -> Made<Vec<T>>
     requires ordered { range.start ≤ range.end }
     requires inside { range.end ≤ length items.now }
-    ensures { IfOk result (λ list. AllZip T.same (slice_range items.now range.start range.end) list.items) }
+    ensures { MakesCopies T.same (slice_range items.now range.start range.end) result }
 {
     copy_all(alloc, &items[range])
 }
@@ -42,7 +41,7 @@ pub fn do_slice<T: Twin>(alloc: Global, items: &[T], range: Range<usize>) -> Mad
 pub fn do_slice_reverse<T: Twin>(alloc: Global, items: &[T], range: Range<usize>) -> Made<Vec<T>>
     requires ordered { range.start ≤ range.end }
     requires inside { range.end ≤ length items.now }
-    ensures { IfOk result (λ list. AllZip T.same (reverse (slice_range items.now range.start range.end)) list.items) }
+    ensures { MakesCopies T.same (reverse (slice_range items.now range.start range.end)) result }
 {
     let mut list = do_slice(alloc, items, range)?;
     list.reverse();
@@ -62,7 +61,7 @@ pub fn do_stepped_slice<T: Twin>(
     requires inside { range.end ≤ length items.now }
     requires in_memory { length items.now < 2 ^ 63 }
     requires moves { 0 < step }
-    ensures { IfOk result (λ list. AllZip T.same (elements_at items.now (picks_in_span range.start range.end (signed_step false step))) list.items) }
+    ensures { MakesCopies T.same (stepped_elements items.now range false step) result }
 {
     indices_of_a_span();
     gather(
@@ -85,7 +84,7 @@ pub fn do_stepped_slice_reverse<T: Twin>(
     requires inside { range.end ≤ length items.now }
     requires in_memory { length items.now < 2 ^ 63 }
     requires moves { 0 < step }
-    ensures { IfOk result (λ list. AllZip T.same (elements_at items.now (picks_in_span range.start range.end (signed_step true step))) list.items) }
+    ensures { MakesCopies T.same (stepped_elements items.now range true step) result }
 {
     indices_of_a_span();
     gather(alloc, items, SaturatedSliceIter::in_span(range, step, true))
@@ -134,7 +133,7 @@ pub fn saturate_index<T>(items: &[T], p: isize) -> usize
 /// Example: of 1, 2, 3 and the slice `::-1` it gives 3, 2, 1.
 pub fn getitem_by_slice<T: Twin>(alloc: Global, items: &[T], slice: SaturatedSlice) -> Made<Vec<T>>
     requires { length items.now < 2 ^ 63 }
-    ensures { IfOk result (λ list. AllZip T.same (elements_at items.now (picks_of (length items.now) slice)) list.items) }
+    ensures { MakesCopies T.same (picked_elements items.now slice) result }
 {
     indices_of_a_slice();
     indices_of_a_span();
@@ -168,7 +167,7 @@ pub fn getitem_by_index<T: Twin>(alloc: Global, items: &[T], index: isize) -> Tr
 /// The elements at indices, in their order.
 fn gather<T: Twin>(alloc: Global, items: &[T], mut indexes: SaturatedSliceIter) -> Made<Vec<T>>
     requires { All (λ i. i < length items.now) indexes }
-    ensures { IfOk result (λ list. AllZip T.same (elements_at items.now indexes) list.items) }
+    ensures { MakesCopies T.same (elements_at items.now indexes) result }
 {
     let mut list = Vec::with_capacity(alloc, indexes.len())?;
     while let Some(index) = indexes.next() {
@@ -198,7 +197,7 @@ pub fn do_set_indexes<T: Twin>(
 ) -> Made<()>
     requires count { length indexes ≡ length items.now }
     requires inside { All (λ i. i < length places.old) indexes }
-    ensures ok { OnOk result ((copies : List T) × AllZip T.same items.now copies × (places.new ≡ set_at places.old indexes copies)) }
+    ensures ok { OnOk result (SetsIndices T.same items.now indexes places.old places.new) }
     ensures err { OnErr result (places.new ≡ places.old) }
 {
     let copies = copy_all(alloc, items)?;
@@ -253,8 +252,8 @@ pub fn setitem_by_slice_no_resize<T: Twin>(
     items: &[T],
 ) -> Tried<()>
     requires { length places.old < 2 ^ 63 }
-    ensures answer { IfOk result (λ outcome. outcome ≡ done_if_equal fault.Buffer (length (picks_of (length places.old) slice)) (length items.now)) }
-    ensures change { IfOk result (λ outcome. MatchOutcome outcome ((copies : List T) × AllZip T.same items.now copies × (places.new ≡ assigned_list places.old slice copies)) (places.new ≡ places.old)) }
+    ensures answer { Makes (pick_answer fault.Buffer (length places.old) slice (length items.now)) result }
+    ensures change { Assigns result T.same items.now slice places.old places.new }
     ensures memory { OnErr result (places.new ≡ places.old) }
 {
     indices_of_a_span();
@@ -281,8 +280,8 @@ pub(crate) fn set_extended<T: Twin>(
     requires in_memory { length places.old < 2 ^ 63 }
     requires moves { slice.step ≢ pos 0 }
     requires count { count ≡ length (picks_of (length places.old) slice) }
-    ensures answer { IfOk result (λ outcome. outcome ≡ done_if_equal refusal (length (picks_of (length places.old) slice)) (length items.now)) }
-    ensures change { IfOk result (λ outcome. MatchOutcome outcome ((copies : List T) × AllZip T.same items.now copies × (places.new ≡ set_at places.old (picks_of (length places.old) slice) copies)) (places.new ≡ places.old)) }
+    ensures answer { Makes (pick_answer refusal (length places.old) slice (length items.now)) result }
+    ensures change { AssignsPicks result T.same items.now slice places.old places.new }
     ensures memory { OnErr result (places.new ≡ places.old) }
 {
     indices_of_a_slice();

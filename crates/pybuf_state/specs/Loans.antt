@@ -9,6 +9,10 @@ use Rattle.pybuf_command.specs.declared.loans.Loan.TheVariants as loan
 use Rattle.pybuf_command.specs.Loans.{loan_of}
 use Rattle.pybuf_state.specs.Exporter.{Exporter}
 use Rattle.pybuf_state.specs.Snaps.{snap_of_subject}
+use Rattle.pybuf_value.specs.declared.values.Scalar.{Scalar}
+use Rattle.pybuf_value.specs.declared.values.PySlice.{PySlice}
+use Rattle.pybuf_value.specs.declared.values.Value.{Value}
+use Rattle.pybuf_command.specs.Handles.{handles_in_scalar, handles_in_slice, handle_of_value}
 
 -- ---- which handles are known
 
@@ -82,3 +86,17 @@ lent_for_each e loans handles = lents_by e (names_of loans) handles
 -- the handles, each with what it names
 abbrev pub snaps_of : List Lent → List (ℕ × Snap)
 snaps_of lents = map (λ l. (l.handle, l.snap)) lents
+
+-- ---- the handles of parts of a command, by what each is lent as
+
+-- each handle among these values is known
+abbrev pub are_scalars_named : Exporter → (ℕ → Option Loan) → List Scalar → Bool
+are_scalars_named e named scalars = list_all (λ scalar. are_named e named (handles_in_scalar scalar)) scalars
+
+-- each handle in these slices is known
+abbrev pub are_slices_named : Exporter → (ℕ → Option Loan) → List PySlice → Bool
+are_slices_named e named slices = list_all (λ slice. are_named e named (handles_in_slice slice)) slices
+
+-- the handle that a value is, with what it names
+abbrev pub snaps_of_value : Exporter → (ℕ → Option Loan) → Value → List (ℕ × Snap)
+snaps_of_value e named value = snaps_of (lents_by e named (handle_of_value value))

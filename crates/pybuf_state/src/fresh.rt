@@ -2,7 +2,7 @@
 ghost use Rattle.std.specs.Prelude.{◌≡◌, IfOk};
 ghost use Rattle.pybuf_command.specs.declared.kinds.Subject.TheVariants as subjects;
 ghost use Rattle.pybuf_state.specs.Exporter.{exports_of, new_exporter, with_view};
-ghost use Rattle.pybuf_state.specs.Answers.{exporter_of, IsWhole};
+ghost use Rattle.pybuf_state.specs.Answers.{exporter_of, IsWhole, MakesExporter};
 ghost use Rattle.pybuf_state.specs.Fresh.{IsCopyOf, is_readonly_subject, made_of};
 
 use crate::parts::Parts;
@@ -76,7 +76,7 @@ fn vector_of_view(parts: &Parts, alloc: Global, view: usize, snap: Snap) -> Made
 pub fn exporter_of_copy(parts: &Parts, alloc: Global, subject: Subject, snap: Snap) -> Made<Parts>
     requires whole { IsWhole parts.now }
     requires copy { IsCopyOf (exporter_of parts.now) subject snap }
-    ensures value { IfOk result (λ made. exporter_of made ≡ made_of (is_readonly_subject (exporter_of parts.now) subject) snap) }
+    ensures value { MakesExporter (made_of (is_readonly_subject (exporter_of parts.now) subject) snap) result }
     ensures counted { IfOk result (λ made. made.exports ≡ exports_of (exporter_of made)) }
 {
     match subject {

@@ -1,5 +1,5 @@
 //! The bytes of a view, lent where they lie one after the other.
-ghost use Rattle.std.specs.Prelude.{◌≡◌, ◌≤◌, true, false, length, slice_range, slice_index, MatchOption};
+ghost use Rattle.std.specs.Prelude.{◌≡◌, ◌≤◌, true, length, slice_range, slice_index};
 ghost use Rattle.pybuf_desc.specs.Contiguous.{is_contiguous_layout};
 ghost use Rattle.pybuf_desc.specs.Items.{content_of_layout};
 
@@ -10,13 +10,13 @@ impl Parts {
     ghost use Rattle.std.specs.Borrow.{sem};
     ghost use Rattle.pybuf_state.specs.Answers.{exporter_of, IsWhole};
     ghost use Rattle.pybuf_state.specs.Live.{is_live, layout_of, is_writable_run};
-    ghost use Rattle.pybuf_state.specs.Lending.{LendsRun, IsRunOf};
+    ghost use Rattle.pybuf_state.specs.Lending.{LendsRun, IsRunOf, GivesRun, GivesContent};
 
     /// Where the bytes of an unreleased view start and end, if its items lie one after the other.
     fn run_of(&self, view: usize) -> Option<(usize, usize)>
         requires whole { IsWhole self.now }
         requires live { is_live (exporter_of self.now) view ≡ true }
-        ensures { MatchOption result (is_contiguous_layout (layout_of (exporter_of self.now) view) ≡ false) (λ run. IsRunOf self.now.bytes.items (layout_of (exporter_of self.now) view) run.0 run.1) }
+        ensures { GivesRun self.now view result }
     {
         let Ok(layout) = self.live_layout(view) else {
             return None;
@@ -63,7 +63,7 @@ impl Parts {
     pub fn contiguous_bytes(&self, view: usize) -> Option<&[u8]>
         requires whole { IsWhole self.now }
         requires live { is_live (exporter_of self.now) view ≡ true }
-        ensures { MatchOption result (is_contiguous_layout (layout_of (exporter_of self.now) view) ≡ false) (λ bytes. (is_contiguous_layout (layout_of (exporter_of self.now) view) ≡ true) × (bytes.now ≡ content_of_layout self.now.bytes.items (layout_of (exporter_of self.now) view))) }
+        ensures { GivesContent self.now view result }
     {
         let (start, end) = self.run_of(view)?;
         Some(&self.bytes.as_slice()[start..end])

@@ -6,7 +6,7 @@ ghost use Rattle.pybuf_command.specs.Handles.{handles_in_scalar, handles_in_slic
 ghost use Rattle.pybuf_command.specs.declared.loans.Loan.{Loan};
 ghost use Rattle.pybuf_state.specs.Fits.{LoansFit, fits};
 ghost use Rattle.pybuf_state.specs.Answers.{exporter_of};
-ghost use Rattle.pybuf_state.specs.Loans.{given_loan, names_of, is_named, are_named};
+ghost use Rattle.pybuf_state.specs.Loans.{given_loan, names_of, is_named, are_named, are_scalars_named, are_slices_named};
 ghost use Rattle.pybuf_state.specs.Names as spec;
 
 use crate::parts::Parts;
@@ -147,7 +147,7 @@ fn is_slice_known<N: Names>(parts: &Parts, names: &N, slice: &PySlice) -> bool
 
 /// The same of the handles that values without parts are.
 fn are_scalars_known<N: Names>(parts: &Parts, names: &N, scalars: &[Scalar]) -> bool
-    ensures { result ≡ list_all (λ scalar. are_named (exporter_of parts.now) (N.named names.now) (handles_in_scalar scalar)) scalars.now }
+    ensures { result ≡ are_scalars_named (exporter_of parts.now) (N.named names.now) scalars.now }
 {
     scalars
         .iter()
@@ -156,7 +156,7 @@ fn are_scalars_known<N: Names>(parts: &Parts, names: &N, scalars: &[Scalar]) -> 
 
 /// The same of the handles in slices.
 fn are_slices_known<N: Names>(parts: &Parts, names: &N, slices: &[PySlice]) -> bool
-    ensures { result ≡ list_all (λ slice. are_named (exporter_of parts.now) (N.named names.now) (handles_in_slice slice)) slices.now }
+    ensures { result ≡ are_slices_named (exporter_of parts.now) (N.named names.now) slices.now }
 {
     slices
         .iter()

@@ -1,5 +1,6 @@
 //! What is kept of an exporter.
-ghost use Rattle.std.specs.Prelude.{◌≡◌, ◌≤◌, ◌<◌, ◌+◌, [], Ok, Err, length, true, false, IfOk, IsOk, OnOk, OnErr, MatchResult};
+ghost use Rattle.std.specs.Prelude.{◌≡◌, ◌≤◌, ◌<◌, ◌+◌, [], Ok, length, true, false, IfOk, IsOk, OnOk, OnErr};
+ghost use Rattle.pybuf_value.specs.Halting.{AnsweredAtOnce, GivesLent};
 
 use crate::iterators::StoredIterator;
 use crate::store::Store;
@@ -37,7 +38,7 @@ impl Parts {
     ghost use Rattle.pybuf_slice.specs.FrontContent.{IsSpare};
     ghost use Rattle.pybuf_state.specs.Keeps as keeps;
     ghost use Rattle.pybuf_state.specs.Exporter.{view_at, live_layout, with_view, released_in, exports_of, resized, iterator_at, with_iterator, iterator_put};
-    ghost use Rattle.pybuf_state.specs.Answers.{exporter_of, IsWhole, Answers};
+    ghost use Rattle.pybuf_state.specs.Answers.{exporter_of, IsWhole, Answers, Effects};
     ghost use Rattle.pybuf_state.specs.Laws.{IsSoundLayout};
     ghost use Rattle.pybuf_state.specs.Resizing.{has_exports, resizable};
 
@@ -45,7 +46,7 @@ impl Parts {
     /// where it is a vector. Takes no memory.
     /// Example: of a bytearray it is `Ok(())`.
     pub fn check_string(&self) -> Result<(), Fault>
-        ensures { MatchResult result (λ _. unless (keeps.is_vector self.now.kind) faults.UnknownName ≡ Ok true) (λ f. unless (keeps.is_vector self.now.kind) faults.UnknownName ≡ Err f) }
+        ensures { AnsweredAtOnce result (λ _. true) (unless (keeps.is_vector self.now.kind) faults.UnknownName) }
     {
         match self.kind {
             ExporterKind::Vector { readonly: _ } => Err(Fault::UnknownName),
@@ -59,7 +60,7 @@ impl Parts {
     /// Example: `parts.view(0)` of an exporter without views is `Err(Fault::UnknownName)`.
     #[inline(always)]
     pub fn view(&self, view: usize) -> Result<&StoredView, Fault>
-        ensures { MatchResult result (λ v. view_at (exporter_of self.now) view ≡ Ok v.now) (λ f. view_at (exporter_of self.now) view ≡ Err f) }
+        ensures { GivesLent (view_at (exporter_of self.now) view) result }
     {
         match self.views.get(view) {
             Some(view) => Ok(view),
@@ -75,7 +76,7 @@ impl Parts {
     #[inline(always)]
     pub fn live_layout(&self, view: usize) -> Result<&KeptLayout, Fault>
         requires { IsWhole self.now }
-        ensures exact { MatchResult result (λ l. live_layout (exporter_of self.now) view ≡ Ok l.now) (λ f. live_layout (exporter_of self.now) view ≡ Err f) }
+        ensures exact { GivesLent (live_layout (exporter_of self.now) view) result }
         ensures sound { IfOk result (λ l. IsSoundLayout (exporter_of self.now) l.now) }
     {
         let view = self.view(view)?;
@@ -106,7 +107,7 @@ impl Parts {
     /// Example: the first view of an exporter is replied as `LocalReply::View(0)`.
     pub fn add_view(&mut self, layout: KeptLayout) -> Result<LocalReply, Halt>
         requires { IsWhole self.old }
-        ensures answer { Answers (Ok (with_view (exporter_of self.old) layout)) (exporter_of self.old) result (exporter_of self.new) }
+        ensures answer { Effects self.old (λ e. Ok (with_view e layout)) result self.new }
         ensures counted { self.new.exports ≡ exports_of (exporter_of self.new) }
         ensures bytes { self.new.bytes ≡ self.old.bytes }
     {
@@ -133,7 +134,7 @@ impl Parts {
     /// Example: the first iterator of an exporter is replied as `LocalReply::Iter(0)`.
     pub fn add_iterator(&mut self, subject: Subject) -> Result<LocalReply, Halt>
         requires { IsWhole self.old }
-        ensures answer { Answers (Ok (with_iterator (exporter_of self.old) subject)) (exporter_of self.old) result (exporter_of self.new) }
+        ensures answer { Effects self.old (λ e. Ok (with_iterator e subject)) result self.new }
         ensures counted { self.new.exports ≡ exports_of (exporter_of self.new) }
         ensures bytes { self.new.bytes ≡ self.old.bytes }
     {
@@ -160,7 +161,7 @@ impl Parts {
     /// Example: of an exporter without views it is `Ok(())`.
     pub fn resizable(&self) -> Result<(), Fault>
         requires { IsWhole self.now }
-        ensures { MatchResult result (λ _. resizable (exporter_of self.now) ≡ Ok true) (λ f. resizable (exporter_of self.now) ≡ Err f) }
+        ensures { AnsweredAtOnce result (λ _. true) (resizable (exporter_of self.now)) }
     {
         if self.exports > 0 {
             return Err(Fault::Buffer);
@@ -254,7 +255,7 @@ impl Parts {
     /// Example: `parts.release_view(0)` is `Ok(())` after one view was made, also the second time.
     pub fn release_view(&mut self, view: usize) -> Result<(), Fault>
         requires { IsWhole self.old }
-        ensures exact { MatchResult result (λ _. released_in (exporter_of self.old) view ≡ Ok (exporter_of self.new)) (λ f. released_in (exporter_of self.old) view ≡ Err f) }
+        ensures exact { AnsweredAtOnce result (λ _. exporter_of self.new) (released_in (exporter_of self.old) view) }
         ensures err { OnErr result (exporter_of self.new ≡ exporter_of self.old) }
         ensures counted { self.new.exports ≡ exports_of (exporter_of self.new) }
         ensures bytes { self.new.bytes ≡ self.old.bytes }

@@ -1,5 +1,5 @@
 //! Bytes that lie together, read from where they lie.
-ghost use Rattle.std.specs.Prelude.{◌≡◌, length, Some, Ok, Err, true, false, IfOk, MatchResult};
+ghost use Rattle.std.specs.Prelude.{◌≡◌, length, Some, true, false, IfOk};
 ghost use Rattle.pybuf_value.specs.Snaps.{content_of};
 ghost use Rattle.pybuf_desc.specs.Contiguous.{is_contiguous_layout};
 ghost use Rattle.pybuf_desc.specs.Items.{content_of_layout};
@@ -7,6 +7,7 @@ ghost use Rattle.pybuf_desc.specs.Layouts.{LiesInside};
 ghost use Rattle.pybuf_state.specs.Exporter.{view_at};
 ghost use Rattle.pybuf_state.specs.Snaps.{snap_of_view};
 ghost use Rattle.pybuf_state.specs.Answers.{exporter_of, IsWhole};
+ghost use Rattle.pybuf_value.specs.Halting.{GivesLent};
 
 use crate::laws::live_layouts_are_sound;
 use crate::parts::Parts;
@@ -31,7 +32,7 @@ pub fn run_of<'a>(bytes: &'a [u8], layout: &KeptLayout) -> &'a [u8]
 /// Example: of a view of all bytes of `b"abc"` it is `Ok(b"abc")`, and of its slice `::2` `Err(Fault::Kind)`.
 pub fn bytes_in_a_row<'a>(bytes: &'a [u8], view: &StoredView) -> Result<&'a [u8], Fault>
     requires inside { view.now.released ≡ false → LiesInside (length bytes.now) view.now.layout }
-    ensures { MatchResult result (λ row. content_of (Some (snap_of_view bytes.now view.now)) ≡ Ok row.now) (λ fault. content_of (Some (snap_of_view bytes.now view.now)) ≡ Err fault) }
+    ensures { GivesLent (content_of (Some (snap_of_view bytes.now view.now))) result }
 {
     if view.is_released() {
         return Err(Fault::Value);
@@ -48,7 +49,7 @@ pub fn bytes_in_a_row<'a>(bytes: &'a [u8], view: &StoredView) -> Result<&'a [u8]
 /// Example: `given(parts, 0)` of an exporter without views is `Err(Fault::UnknownName)`.
 pub fn given(parts: &Parts, view: usize) -> Result<&StoredView, Fault>
     requires { IsWhole parts.now }
-    ensures exact { MatchResult result (λ v. view_at (exporter_of parts.now) view ≡ Ok v.now) (λ f. view_at (exporter_of parts.now) view ≡ Err f) }
+    ensures exact { GivesLent (view_at (exporter_of parts.now) view) result }
     ensures inside { IfOk result (λ v. v.now.released ≡ false → LiesInside (length parts.now.bytes.items) v.now.layout) }
 {
     live_layouts_are_sound();

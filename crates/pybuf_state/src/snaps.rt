@@ -9,6 +9,7 @@ ghost use Rattle.pybuf_state.specs.Answers.{exporter_of, IsWhole};
 ghost use Rattle.pybuf_state.specs.Snaps as spec;
 ghost use Rattle.pybuf_state.specs.Loans as loans_spec;
 ghost use Rattle.pybuf_state.specs.Names as names_spec;
+ghost use Rattle.pybuf_value.specs.Halting.{Makes};
 
 use crate::names::{Meaning, Names, Other};
 use crate::parts::Parts;
@@ -159,7 +160,7 @@ fn snap_of_other(alloc: Global, other: Other<'_>) -> Made<Option<Snap>>
 fn snap_of_meaning(parts: &Parts, alloc: Global, meaning: Meaning<'_>) -> Made<Option<Snap>>
     requires whole { IsWhole parts.now }
     requires sound { names_spec.IsSoundMeaning meaning }
-    ensures { IfOk result (λ snap. snap ≡ loans_spec.snap_in (exporter_of parts.now) (names_spec.meant meaning.entry)) }
+    ensures { Makes (loans_spec.snap_in (exporter_of parts.now) (names_spec.meant meaning.entry)) result }
 {
     match meaning {
         Meaning::Own(subject) => snap_of_subject(parts, alloc, subject),
@@ -177,7 +178,7 @@ fn lent_for_value<N: Names>(
 ) -> Made<SnapList>
     requires whole { IsWhole parts.now }
     requires fit { N.fit names.now }
-    ensures { IfOk result (λ pairs. pairs ≡ loans_spec.snaps_of (loans_spec.lents_by (exporter_of parts.now) (N.named names.now) (handle_of_value value.now))) }
+    ensures { Makes (loans_spec.snaps_of_value (exporter_of parts.now) (N.named names.now) value.now) result }
 {
     match value {
         Value::One(Scalar::Handle(handle)) => {
@@ -200,7 +201,7 @@ pub fn lent_to<N: Names>(
 ) -> Made<SnapList>
     requires whole { IsWhole parts.now }
     requires fit { N.fit names.now }
-    ensures { IfOk result (λ pairs. (values : List Scalar) → packed_bytes format.now pairs values ≡ packed_bytes format.now (loans_spec.snaps_of (loans_spec.lents_by (exporter_of parts.now) (N.named names.now) (handle_of_value value.now))) values) }
+    ensures { IfOk result (λ pairs. (values : List Scalar) → packed_bytes format.now pairs values ≡ packed_bytes format.now (loans_spec.snaps_of_value (exporter_of parts.now) (N.named names.now) value.now) values) }
 {
     pybuf_memoryview::numbers_look_at_no_loan();
     if reads_bytes(format) {

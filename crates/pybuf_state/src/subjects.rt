@@ -1,5 +1,5 @@
 //! What a handle of an exporter names, and its bytes from where they lie.
-ghost use Rattle.std.specs.Prelude.{◌≡◌, length, Ok, Err, MatchResult};
+ghost use Rattle.std.specs.Prelude.{◌≡◌, length, Ok};
 ghost use Rattle.pybuf_value.specs.Snaps.{content_of, content_of_named};
 ghost use Rattle.pybuf_desc.specs.Items.{content_of_layout};
 ghost use Rattle.pybuf_desc.specs.Layouts.{LiesInside};
@@ -9,6 +9,7 @@ ghost use Rattle.pybuf_state.specs.Loans.{snap_in};
 ghost use Rattle.pybuf_state.specs.Names as names_spec;
 ghost use Rattle.pybuf_state.specs.Snaps as spec;
 ghost use Rattle.pybuf_state.specs.Answers.{exporter_of, IsWhole};
+ghost use Rattle.pybuf_value.specs.Halting.{GivesLent};
 
 use crate::names::{Meaning, Other};
 use crate::parts::Parts;
@@ -40,7 +41,7 @@ pub fn kind_of_subject(parts: &Parts, subject: Subject) -> Option<SnapKind>
 /// The bytes of a view, where they lie together.
 fn run_of_given(parts: &Parts, view: usize) -> Result<&[u8], Fault>
     requires { IsWhole parts.now }
-    ensures { MatchResult result (λ bytes. content_of (spec.snap_of_subject (exporter_of parts.now) (subjects.View view)) ≡ Ok bytes.now) (λ fault. content_of (spec.snap_of_subject (exporter_of parts.now) (subjects.View view)) ≡ Err fault) }
+    ensures { GivesLent (content_of (spec.snap_of_subject (exporter_of parts.now) (subjects.View view))) result }
 {
     let view = given(parts, view)?;
     bytes_in_a_row(parts.bytes.as_slice(), view)
@@ -53,7 +54,7 @@ fn run_of_given(parts: &Parts, view: usize) -> Result<&[u8], Fault>
 /// Example: of `Subject::Own` of `b"abc"` it is `Ok(b"abc")`, and of the slice `::2` of a view `Err(Fault::Kind)`.
 pub fn run_of_subject(parts: &Parts, subject: Subject) -> Result<&[u8], Fault>
     requires { IsWhole parts.now }
-    ensures { MatchResult result (λ bytes. content_of (spec.snap_of_subject (exporter_of parts.now) subject) ≡ Ok bytes.now) (λ fault. content_of (spec.snap_of_subject (exporter_of parts.now) subject) ≡ Err fault) }
+    ensures { GivesLent (content_of (spec.snap_of_subject (exporter_of parts.now) subject)) result }
 {
     match subject {
         Subject::Own => Ok(parts.bytes.as_slice()),
@@ -130,7 +131,7 @@ pub fn kind_of_other(other: Other<'_>) -> Option<SnapKind>
 /// Example: of `Other::Lies { lender, subject: Subject::Own }` it is all bytes of `lender`.
 pub fn run_of_other<'a>(other: Other<'a>) -> Result<&'a [u8], Fault>
     requires sound { names_spec.IsSoundOther other }
-    ensures { MatchResult result (λ bytes. content_of (names_spec.snap_of_other other.entry) ≡ Ok bytes.now) (λ fault. content_of (names_spec.snap_of_other other.entry) ≡ Err fault) }
+    ensures { GivesLent (content_of (names_spec.snap_of_other other.entry)) result }
 {
     match other {
         Other::Snap(snap) => run_of_snap(snap),
@@ -173,7 +174,7 @@ pub fn kind_of_meaning(parts: &Parts, meaning: Meaning<'_>) -> Option<SnapKind>
 pub fn run_of_meaning<'a>(parts: &'a Parts, meaning: Meaning<'a>) -> Result<&'a [u8], Fault>
     requires whole { IsWhole parts.now }
     requires sound { names_spec.IsSoundMeaning meaning }
-    ensures { MatchResult result (λ bytes. content_of (snap_in (exporter_of parts.now) (names_spec.meant meaning.entry)) ≡ Ok bytes.now) (λ fault. content_of (snap_in (exporter_of parts.now) (names_spec.meant meaning.entry)) ≡ Err fault) }
+    ensures { GivesLent (content_of (snap_in (exporter_of parts.now) (names_spec.meant meaning.entry))) result }
 {
     match meaning {
         Meaning::Own(subject) => run_of_subject(parts, subject),

@@ -11,7 +11,7 @@ use Rattle.pybuf_struct.specs.declared.table.FormatType.{FormatType}
 use Rattle.pybuf_struct.specs.declared.table.FormatType.TheVariants as code
 use Rattle.pybuf_struct.specs.Table.{is_big, is_signed, size_of}
 use Rattle.pybuf_struct.specs.Digits.{number}
-use Rattle.pybuf_struct.specs.Formats.{Format, Field, fields}
+use Rattle.pybuf_struct.specs.Formats.{Format, Code, Field, fields, fields_in_row, fields_of_code, fields_from}
 
 -- the bytes of a Pascal string: as many as its first byte says, but at most the rest of the field
 abbrev pub pascal_content : List ℕ → List ℕ
@@ -29,6 +29,18 @@ value_of o c bytes = scalar.Int (number (is_big o) (is_signed c) bytes)
 
 abbrev pub value_in : Endianness → List ℕ → Field → Scalar
 value_in o bytes field = value_of o field.code (take field.length (drop field.offset bytes))
+
+-- the values of so many fields of a code, one after another from an offset on
+abbrev pub values_in_row : Endianness → List ℕ → FormatType → ℕ → ℕ → List Scalar
+values_in_row o bytes c offset count = map (value_in o bytes) (fields_in_row c (size_of o c) offset count)
+
+-- the values of a code and its repeat, from an offset on
+abbrev pub values_of_code : Endianness → List ℕ → Code → ℕ → List Scalar
+values_of_code o bytes c offset = map (value_in o bytes) (fields_of_code c.code (size_of o c.code) offset c.repeat)
+
+-- the values of codes that follow one another from the first byte on
+abbrev pub values_of_codes : Endianness → List ℕ → List Code → List Scalar
+values_of_codes o bytes codes = map (value_in o bytes) (fields_from o 0 codes)
 
 -- the value of each field, in order
 abbrev pub values : Format → List ℕ → List Scalar

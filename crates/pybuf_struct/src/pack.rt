@@ -1,8 +1,8 @@
 //! Bytes from values.
-ghost use Rattle.std.specs.Prelude.{◌≡◌, ◌<◌, ◌≤◌, ◌-◌, ◌^◌, true, false, ◌||◌, length, Ok, Err, IfOk, IfErr, OnOk, OnErr, IsOk, IsTrue};
+ghost use Rattle.std.specs.Prelude.{◌≡◌, ◌<◌, ◌≤◌, ◌-◌, ◌^◌, true, false, ◌||◌, length, Ok, OnOk, OnErr, IsOk, IsTrue};
 ghost use Rattle.pybuf_struct.specs.Digits.{is_width};
 ghost use Rattle.pybuf_struct.specs.Formats.{extent, fields_from};
-ghost use Rattle.pybuf_value.specs.Halting.{outcome_of, refusal_of, items_of};
+ghost use Rattle.pybuf_value.specs.Halting.{refusal_of, GivesOutcomeOfBytes};
 ghost use Rattle.pybuf_struct.specs.Values.{is_length};
 ghost use Rattle.pybuf_struct.specs.Packing.{is_in_range, complement_of, digits_of, truth_byte, fitted_to, pascal_bytes, bytes_of, contents_of, room_with_contents, packed_bytes};
 
@@ -286,7 +286,7 @@ impl FormatSpec {
     ///
     /// Example: of `<hI` and the values -1 and 5 it gives `b"\xff\xff\x05\0\0\0"`.
     pub fn pack<L: Lender>(&self, alloc: Global, args: &ScalarList, lender: &L) -> Tried<Vec<u8>>
-        ensures { IfOk result (λ o. items_of o ≡ outcome_of (packed_bytes self.now (L.pairs lender.now) args.now)) }
+        ensures { GivesOutcomeOfBytes (packed_bytes self.now (L.pairs lender.now) args.now) result }
     {
         if let Err(fault) = self.check(args.as_slice(), lender) {
             return Ok(Outcome::Refused(fault));

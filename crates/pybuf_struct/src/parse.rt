@@ -1,9 +1,9 @@
 //! Texts to formats.
-ghost use Rattle.std.specs.Prelude.{◌≡◌, ◌+◌, ◌-◌, ◌*◌, ◌<◌, ◌≤◌, ◌^◌, IfSome, IfNone, IfOk, IsTrue, ok_or, unwrap_or};
+ghost use Rattle.std.specs.Prelude.{◌≡◌, ◌+◌, ◌-◌, ◌*◌, ◌<◌, ◌≤◌, ◌^◌, IfSome, IfNone, IsTrue, ok_or, unwrap_or};
 ghost use Rattle.std.specs.Char.{is_ascii_digit};
 ghost use Rattle.pybuf_value.specs.declared.faults.Fault.{Fault};
 ghost use Rattle.pybuf_struct.specs.Formats.{allowed_code, prefix_of, code_at, offset_after, format_after_prefix, format_of};
-ghost use Rattle.pybuf_value.specs.Halting.{outcome_of};
+ghost use Rattle.pybuf_value.specs.Halting.{GivesOutcome};
 
 use crate::format::{FormatCode, FormatSpec};
 use crate::table::{Endianness, FormatType};
@@ -82,7 +82,7 @@ fn place(
 
 /// The format whose codes the text spells after its prefix.
 fn spell(alloc: Global, order: Endianness, text: &[u8]) -> Tried<FormatSpec>
-    ensures { IfOk result (λ o. o ≡ outcome_of (ok_or (format_after_prefix order text.now) Fault.Struct)) }
+    ensures { GivesOutcome (ok_or (format_after_prefix order text.now) Fault.Struct) result }
 {
     let mut codes = Vec::with_capacity(alloc, text.len().min(ROOM))?;
     let mut offset = 0usize;
@@ -125,7 +125,7 @@ impl FormatSpec {
     ///
     /// Example: of `b"<hI"` it gives a format of the size 6, and of `b"<h 2"` it is refused with `StructError`.
     pub fn parse(alloc: Global, format: &[u8]) -> Tried<FormatSpec>
-        ensures { IfOk result (λ o. o ≡ outcome_of (format_of format.now)) }
+        ensures { GivesOutcome (format_of format.now) result }
     {
         let (order, text) = split_prefix(format);
         spell(alloc, order, text)

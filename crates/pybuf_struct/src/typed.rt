@@ -1,6 +1,6 @@
 //! Formats by texts of Rust, and values from bytes and back with one result for each call.
-ghost use Rattle.std.specs.Prelude.{◌≡◌, [], Ok, Err, MatchResult};
-ghost use Rattle.pybuf_value.specs.Halting.{Gives};
+ghost use Rattle.std.specs.Prelude.{◌≡◌, []};
+ghost use Rattle.pybuf_value.specs.Halting.{Gives, SettledAtOnce};
 ghost use Rattle.pybuf_value.specs.Settling.{GivesItems};
 ghost use Rattle.pybuf_struct.specs.Formats.{format_of};
 ghost use Rattle.pybuf_struct.specs.Values.{unpacked_values};
@@ -70,9 +70,7 @@ impl FormatSpec {
     ///
     /// Example: of `<H`, the offset 1 and the value 258 it makes `b"\0\x02\x01\0"` of four zeros.
     pub fn pack_at(&self, room: &mut [u8], offset: usize, values: &[Scalar]) -> Result<(), Fault>
-        ensures { MatchResult result
-            (λ _. packed_at self.now values.now offset room.old ≡ Ok room.new)
-            (λ fault. (packed_at self.now values.now offset room.old ≡ Err fault) × (room.new ≡ room.old)) }
+        ensures { SettledAtOnce result (λ _. room.new) (room.new ≡ room.old) (packed_at self.now values.now offset room.old) }
     {
         let size = self.size();
         if offset > room.len() || size > room.len() - offset {

@@ -1,9 +1,9 @@
 //! Values from bytes.
-ghost use Rattle.std.specs.Prelude.{◌≡◌, ◌+◌, ◌*◌, ◌≤◌, ◌<◌, ◌^◌, ◌++◌, length, map, IfOk, OnOk, IsTrue};
+ghost use Rattle.std.specs.Prelude.{◌≡◌, ◌+◌, ◌*◌, ◌≤◌, ◌<◌, ◌^◌, ◌++◌, length, IfOk, OnOk, IsTrue};
 ghost use Rattle.pybuf_struct.specs.Table.{size_of};
-ghost use Rattle.pybuf_struct.specs.Formats.{span, extent, fields_in_row, fields_of_code, fields_from};
-ghost use Rattle.pybuf_value.specs.Halting.{outcome_of};
-ghost use Rattle.pybuf_struct.specs.Values.{is_length, pascal_content, value_of, value_in, unpacked_values};
+ghost use Rattle.pybuf_struct.specs.Formats.{span, extent, fields_from};
+ghost use Rattle.pybuf_value.specs.Halting.{GivesOutcome};
+ghost use Rattle.pybuf_struct.specs.Values.{is_length, pascal_content, value_of, unpacked_values, values_in_row, values_of_code, values_of_codes};
 
 use crate::digits::number;
 use crate::format::{FormatCode, FormatSpec};
@@ -54,7 +54,7 @@ fn push_row(
 ) -> Made<usize>
     requires one { IsTrue (is_length order code (size_of order code)) }
     requires within { offset + count * size_of order code ≤ length bytes.now }
-    ensures values { OnOk result (out.new.items ≡ out.old.items ++ map (value_in order bytes.now) (fields_in_row code (size_of order code) offset count)) }
+    ensures values { OnOk result (out.new.items ≡ out.old.items ++ values_in_row order bytes.now code offset count) }
     ensures end { IfOk result (λ end. end ≡ offset + count * size_of order code) }
 {
     let size = code.size(order);
@@ -77,7 +77,7 @@ fn push_code(
     offset: usize,
 ) -> Made<usize>
     requires { offset + span order code.now ≤ length bytes.now }
-    ensures values { OnOk result (out.new.items ≡ out.old.items ++ map (value_in order bytes.now) (fields_of_code code.now.code (size_of order code.now.code) offset code.now.repeat)) }
+    ensures values { OnOk result (out.new.items ≡ out.old.items ++ values_of_code order bytes.now code.now offset) }
     ensures end { IfOk result (λ end. end ≡ offset + span order code.now) }
 {
     let kind = code.code();
@@ -102,7 +102,7 @@ fn push_all(
     bytes: &[u8],
 ) -> Made<()>
     requires { extent order codes.now ≤ length bytes.now }
-    ensures { OnOk result (out.new.items ≡ out.old.items ++ map (value_in order bytes.now) (fields_from order 0 codes.now)) }
+    ensures { OnOk result (out.new.items ≡ out.old.items ++ values_of_codes order bytes.now codes.now) }
 {
     let mut at = 0;
     for code in codes {
@@ -120,7 +120,7 @@ impl FormatSpec {
     ///
     /// Example: of `<hI` and `b"\xff\xff\x05\0\0\0"` it gives -1 and 5.
     pub fn unpack(&self, alloc: Global, bytes: &[u8]) -> Tried<ScalarList>
-        ensures { IfOk result (λ o. o ≡ outcome_of (unpacked_values self.now bytes.now)) }
+        ensures { GivesOutcome (unpacked_values self.now bytes.now) result }
     {
         if bytes.len() != self.size() {
             return Ok(Outcome::Refused(Fault::Struct));

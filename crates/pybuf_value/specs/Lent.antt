@@ -2,7 +2,7 @@
 use Rattle.std.specs.Prelude.{◌≡◌, ℕ, List, Option, Some, None, Result, Ok, Err}
 use Rattle.pybuf_value.specs.declared.faults.Fault.{Fault}
 use Rattle.pybuf_value.specs.declared.halt.Halt.{Halt}
-use Rattle.pybuf_value.specs.declared.halt.Halt.TheVariants as halt
+use Rattle.pybuf_value.specs.Halting.{Answered}
 use Rattle.pybuf_value.specs.declared.snaps.Snap.{Snap}
 use Rattle.pybuf_value.specs.declared.snaps.SnapKind.{SnapKind}
 use Rattle.pybuf_value.specs.declared.lent.Lent.{Lent}
@@ -15,9 +15,7 @@ lent_bytes (lent.Gathered bytes) = bytes.items
 
 -- a result is these bytes, or their refusal; if memory runs out, nothing is said
 abbrev pub Lends : Result (List ℕ) Fault → Result Lent Halt → Type 0
-Lends wanted (Ok l) = wanted ≡ Ok (lent_bytes l)
-Lends wanted (Err (halt.Refused f)) = wanted ≡ Err f
-Lends wanted (Err halt.NoMemory) = Unit {0}
+Lends wanted result = Answered result lent_bytes wanted
 
 -- what kind of thing a handle names
 abbrev pub kind_of_named : Option Snap → Option SnapKind

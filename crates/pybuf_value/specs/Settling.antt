@@ -6,14 +6,11 @@ use Rattle.pybuf_value.specs.declared.faults.Fault.{Fault}
 use Rattle.pybuf_value.specs.declared.faults.Outcome.{Outcome}
 use Rattle.pybuf_value.specs.declared.faults.Outcome.TheVariants as outcome
 use Rattle.pybuf_value.specs.declared.halt.Halt.{Halt}
-use Rattle.pybuf_value.specs.declared.halt.Halt.TheVariants as halt
-use Rattle.pybuf_value.specs.Halting.{Gives, outcome_of, given_by, done_by}
+use Rattle.pybuf_value.specs.Halting.{Answered, Gives, outcome_of, given_by, done_by}
 
 -- a result has the items that a definition says, or its refusal; if memory runs out, nothing is said
 abbrev pub GivesItems : {X : Type 0} → Result (List X) Fault → Result (Vec X) Halt → Type 0
-GivesItems wanted (Ok items) = wanted ≡ Ok items.items
-GivesItems wanted (Err (halt.Refused f)) = wanted ≡ Err f
-GivesItems wanted (Err halt.NoMemory) = Unit {0}
+GivesItems wanted result = Answered result (λ items. items.items) wanted
 
 -- If an answer is turned into a result, the result is what the answer is. (This is a law of `done_by` that proofs cite.
 -- It stands here since no contract can speak of every definition.)

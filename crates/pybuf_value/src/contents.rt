@@ -1,7 +1,7 @@
 //! The bytes and texts that arguments stand for.
-ghost use Rattle.std.specs.Prelude.{◌≡◌, Ok, Err, IfOk, IfErr, MatchResult, Some};
+ghost use Rattle.std.specs.Prelude.{◌≡◌, Ok, Err, IfOk, IfErr, Some};
 ghost use Rattle.std.specs.Option.{option_copied};
-ghost use Rattle.pybuf_value.specs.Halting.{Gives, outcome_of};
+ghost use Rattle.pybuf_value.specs.Halting.{Gives, GivesLent, GivesOutcome};
 ghost use Rattle.pybuf_value.specs.Texts.{text_in};
 ghost use Rattle.pybuf_value.specs.Snaps.{bytes_like, bytes_alone, bytes_in, bytes_in_parts, byte_in_scalar, content_of_named, string_bytes_of, string_of_named};
 
@@ -22,7 +22,7 @@ use std::alloc::Global;
 ///
 /// Example: of the value of the text `H` it is that text, and of the value 5 it is `Err(Fault::Kind)`.
 pub fn text_in(value: &Value) -> Result<&Text, Fault>
-    ensures { MatchResult result (λ text. text_in value.now ≡ Ok text.now) (λ fault. text_in value.now ≡ Err fault) }
+    ensures { GivesLent (text_in value.now) result }
 {
     match value {
         Value::One(Scalar::Text(text)) => Ok(text),
@@ -83,7 +83,7 @@ pub fn bytes_alone<'a, L: Lender>(value: &'a Scalar, lender: &'a L) -> Result<&'
 /// Refused with `UnknownName` where nothing is named, with `ValueError` for a released view, and with
 /// `TypeError` for an iterator.
 fn content_of(snap: Option<&Snap>) -> Result<&[u8], Fault>
-    ensures { MatchResult result (λ bytes. content_of_named (option_copied snap.entry) ≡ Ok bytes.now) (λ fault. content_of_named (option_copied snap.entry) ≡ Err fault) }
+    ensures { GivesLent (content_of_named (option_copied snap.entry)) result }
 {
     match snap {
         Some(snap) => content_of_snap(snap),
@@ -139,7 +139,7 @@ fn bytes_in<L: Lender>(alloc: Global, value: &Value, lender: &L) -> Result<ByteL
 ///
 /// Example: of the list 97, 98 it gives `b"ab"`, and of the list 256 it is refused with `ValueError`.
 pub fn bytes_from_object<L: Lender>(alloc: Global, value: &Value, lender: &L) -> Tried<ByteList>
-    ensures { IfOk result (λ outcome. outcome ≡ outcome_of (bytes_in (L.pairs lender.now) value.now)) }
+    ensures { GivesOutcome (bytes_in (L.pairs lender.now) value.now) result }
 {
     tried(bytes_in(alloc, value, lender))
 }

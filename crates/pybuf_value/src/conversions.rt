@@ -1,5 +1,6 @@
 //! Values made of Rust's numbers, truth values, ranges, bytes and texts.
-ghost use Rattle.std.specs.Prelude.{◌≡◌, pos, length, Some, None, Ok, Err, IfOk, MatchResult};
+ghost use Rattle.std.specs.Prelude.{◌≡◌, pos, length, Some, None, IfOk};
+ghost use Rattle.pybuf_value.specs.Halting.{AnsweredAtOnce};
 ghost use Rattle.pybuf_value.specs.declared.values.Scalar as scalars;
 ghost use Rattle.pybuf_value.specs.declared.values.Scalar.TheVariants as scalar;
 ghost use Rattle.pybuf_value.specs.declared.values.PySlice as slices;
@@ -151,7 +152,7 @@ impl ScalarList {
 /// Puts the numbers that the values are in as many places.
 fn put_numbers(values: &[Scalar], places: &mut [i128]) -> Result<(), Fault>
     requires { length places.old ≡ length values.now }
-    ensures { MatchResult result (λ _. numbers_in values.now ≡ Ok places.new) (λ fault. numbers_in values.now ≡ Err fault) }
+    ensures { AnsweredAtOnce result (λ _. places.new) (numbers_in values.now) }
 {
     for at in 0..places.len() {
         places[at] = number_in(&values[at])?;

@@ -1,5 +1,6 @@
 //! Bytes that are lent from where they lie, and those of a snap.
-ghost use Rattle.std.specs.Prelude.{◌≡◌, Some, Ok, Err, MatchResult};
+ghost use Rattle.std.specs.Prelude.{◌≡◌, Some};
+ghost use Rattle.pybuf_value.specs.Halting.{GivesLent};
 ghost use Rattle.pybuf_value.specs.Snaps.{content_of, content_of_named};
 ghost use Rattle.pybuf_value.specs.Lent.{lent_bytes};
 
@@ -37,7 +38,7 @@ impl<'a> Lent<'a> {
 ///
 /// Example: of a snap of the bytearray `b"ab"` it is `Ok(b"ab")`, and of a snap of an iterator it is `Err(Fault::Kind)`.
 pub fn content_of_snap(snap: &Snap) -> Result<&[u8], Fault>
-    ensures { MatchResult result (λ bytes. content_of_named (Some snap.now) ≡ Ok bytes.now) (λ fault. content_of_named (Some snap.now) ≡ Err fault) }
+    ensures { GivesLent (content_of_named (Some snap.now)) result }
 {
     match snap.kind {
         SnapKind::Iterator => Err(Fault::Kind),
@@ -55,7 +56,7 @@ pub fn content_of_snap(snap: &Snap) -> Result<&[u8], Fault>
 ///
 /// Example: of a snap of every second item of a view it is `Err(Fault::Kind)`, and of `b"ab"` it is `Ok(b"ab")`.
 pub fn run_of_snap(snap: &Snap) -> Result<&[u8], Fault>
-    ensures { MatchResult result (λ bytes. content_of (Some snap.now) ≡ Ok bytes.now) (λ fault. content_of (Some snap.now) ≡ Err fault) }
+    ensures { GivesLent (content_of (Some snap.now)) result }
 {
     match snap.kind {
         SnapKind::Iterator => Err(Fault::Kind),

@@ -1,9 +1,9 @@
 //! Values as texts, as Python's `repr` writes them.
-ghost use Rattle.std.specs.Prelude.{◌≡◌, ◌++◌, IfOk, OnOk, IsTrue, codes};
+ghost use Rattle.std.specs.Prelude.{◌≡◌, ◌++◌, OnOk, IsTrue, codes};
 ghost use Rattle.std.specs.Str.{IsUtf8};
 ghost use Rattle.std.specs.Fmt.{signed_decimal};
 ghost use Rattle.pybuf_value.specs.Quotes.{quoted_text, repr_of};
-ghost use Rattle.pybuf_value.specs.Halting.{Gives, outcome_of};
+ghost use Rattle.pybuf_value.specs.Halting.{Gives, GivesOutcome};
 ghost use Rattle.pybuf_value.specs.Spelling.{bytes_text, truth_text, handle_text, scalar_text};
 ghost use Rattle.pybuf_value.specs.Texts.{is_ascii, fitted};
 
@@ -54,7 +54,7 @@ fn quoted_between(
 pub fn repr_text(alloc: Global, before: &[u8], bytes: &[u8], after: &[u8]) -> Tried<Text>
     requires before { IsTrue (is_ascii before.now) }
     requires after { IsTrue (is_ascii after.now) }
-    ensures { IfOk result (λ outcome. outcome ≡ outcome_of (fitted (repr_of before.now bytes.now after.now))) }
+    ensures { GivesOutcome (fitted (repr_of before.now bytes.now after.now)) result }
 {
     tried(quoted_between(alloc, b"", before, bytes, after))
 }
@@ -66,7 +66,7 @@ pub fn repr_text(alloc: Global, before: &[u8], bytes: &[u8], after: &[u8]) -> Tr
 ///
 /// Example: `named_repr_text(alloc, "bytearray", b"ab")` gives the text `bytearray(b'ab')`.
 pub fn named_repr_text(alloc: Global, name: &str, bytes: &[u8]) -> Tried<Text>
-    ensures { IfOk result (λ outcome. outcome ≡ outcome_of (fitted (repr_of (name.now ++ codes "(b") bytes.now (codes ")")))) }
+    ensures { GivesOutcome (fitted (repr_of (name.now ++ codes "(b") bytes.now (codes ")"))) result }
 {
     tried(quoted_between(alloc, name.as_bytes(), b"(b", bytes, b")"))
 }
