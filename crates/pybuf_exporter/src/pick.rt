@@ -4,7 +4,7 @@ ghost use Rattle.pybuf_command.specs.declared.kinds.Subject.TheVariants as subje
 ghost use Rattle.pybuf_command.specs.Handles.{handles_of, handles_read};
 ghost use Rattle.pybuf_state.specs.Exporter.{exports_of};
 ghost use Rattle.pybuf_state.specs.Loans.{lents_by};
-ghost use Rattle.pybuf_state.specs.Answers.{exporter_of, IsWhole, Answers};
+ghost use Rattle.pybuf_state.specs.Answers.{exporter_of, IsWhole, AnswersIn};
 ghost use Rattle.pybuf_slice.specs.FrontContent.{IsSpare};
 ghost use Rattle.pybuf_verbs_edits.specs.Counting.{TakesFirst, taken_places, grows_at_end, can_leave_length};
 ghost use Rattle.pybuf_verbs_edits.specs.Edits.{is_edit};
@@ -61,7 +61,7 @@ fn effect_without_edits<N: Names>(
     requires given { handles.now ≡ handles_of verb.now }
     requires fit { N.fit names.now }
     requires no_edit { is_edit verb.now ≡ false }
-    ensures answer { Answers (spec.effect_on_own (exporter_of parts.old) verb.now (lents_by (exporter_of parts.old) (N.named names.now) (handles_read subjects.Own verb.now))) (exporter_of parts.old) result (exporter_of parts.new) }
+    ensures answer { AnswersIn parts.old (λ e. spec.effect_on_own e verb.now (lents_by e (N.named names.now) (handles_read subjects.Own verb.now))) result parts.new }
     ensures counted { parts.new.exports ≡ exports_of (exporter_of parts.new) }
     ensures room { parts.new.bytes.room ≡ parts.old.bytes.room }
 {
@@ -103,7 +103,7 @@ fn effect_on_own<N: Names, L: Ledger>(
     requires whole { IsWhole parts.old }
     requires given { handles.now ≡ handles_of verb.now }
     requires fit { N.fit names.now }
-    ensures answer { Answers (spec.effect_on_own (exporter_of parts.old) verb.now (lents_by (exporter_of parts.old) (N.named names.now) (handles_read subjects.Own verb.now))) (exporter_of parts.old) result (exporter_of parts.new) }
+    ensures answer { AnswersIn parts.old (λ e. spec.effect_on_own e verb.now (lents_by e (N.named names.now) (handles_read subjects.Own verb.now))) result parts.new }
     ensures counted { parts.new.exports ≡ exports_of (exporter_of parts.new) }
     ensures few { OnOk result (moved.new ≤ moved.old + (length parts.old.bytes.items + length parts.new.bytes.items)) }
     ensures front_room { (n : ℕ) → TakesFirst (taken_places (exporter_of parts.old) verb.now) n → OnOk result (parts.new.bytes.room ≡ parts.old.bytes.room + n) }
@@ -133,7 +133,7 @@ fn effect_on_view<N: Names>(
 ) -> Result<LocalReply, Halt>
     requires whole { IsWhole parts.old }
     requires fit { N.fit names.now }
-    ensures answer { Answers (spec.effect_on_view (exporter_of parts.old) k verb.now (lents_by (exporter_of parts.old) (N.named names.now) (handles_read (subjects.View k) verb.now))) (exporter_of parts.old) result (exporter_of parts.new) }
+    ensures answer { AnswersIn parts.old (λ e. spec.effect_on_view e k verb.now (lents_by e (N.named names.now) (handles_read (subjects.View k) verb.now))) result parts.new }
     ensures counted { parts.new.exports ≡ exports_of (exporter_of parts.new) }
     ensures room { parts.new.bytes.room ≡ parts.old.bytes.room }
 {
@@ -189,7 +189,7 @@ pub fn answer<N: Names, L: Ledger>(
 ) -> Result<LocalReply, Halt>
     requires whole { IsWhole parts.old }
     requires fit { N.fit names.now }
-    ensures answer { Answers (spec.answer_by (exporter_of parts.old) subject verb.now (N.named names.now)) (exporter_of parts.old) result (exporter_of parts.new) }
+    ensures answer { AnswersIn parts.old (λ e. spec.answer_by e subject verb.now (N.named names.now)) result parts.new }
     ensures counted { parts.new.exports ≡ exports_of (exporter_of parts.new) }
     ensures few { OnOk result (moved.new ≤ moved.old + (length parts.old.bytes.items + length parts.new.bytes.items)) }
     ensures front_room { (n : ℕ) → TakesFirst (taken_by (exporter_of parts.old) subject verb.now) n → OnOk result (parts.new.bytes.room ≡ parts.old.bytes.room + n) }

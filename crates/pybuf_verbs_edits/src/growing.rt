@@ -1,14 +1,13 @@
 //! Edits that add bytes.
 ghost use Rattle.std.specs.Prelude.{◌≡◌, ◌≤◌, ◌<◌, ◌+◌, ◌*◌, ◌^◌, [], length, true, false, IfOk, IsErr, OnOk, OnErr};
-ghost use Rattle.pybuf_command.specs.Handles.{handle_of_value};
 ghost use Rattle.pybuf_command.specs.declared.kinds.Subject.TheVariants as subjects;
 ghost use Rattle.pybuf_slice.specs.Edits.{repeated_list};
 ghost use Rattle.pybuf_slice.specs.FrontContent.{IsSpare};
 ghost use Rattle.pybuf_state.specs.Exporter.{exports_of};
-ghost use Rattle.pybuf_state.specs.Loans.{lents_by, subject_in};
+ghost use Rattle.pybuf_state.specs.Loans.{subject_in, lents_of_value};
 ghost use Rattle.pybuf_state.specs.Names as names_spec;
 ghost use Rattle.pybuf_state.specs.Snaps.{snap_of_subject};
-ghost use Rattle.pybuf_state.specs.Answers.{exporter_of, IsWhole, Answers};
+ghost use Rattle.pybuf_state.specs.Answers.{exporter_of, IsWhole, AnswersIn};
 ghost use Rattle.pybuf_verbs_edits.specs.Common.{is_own, is_itself};
 ghost use Rattle.pybuf_verbs_edits.specs.Growing as spec;
 ghost use Rattle.pybuf_verbs_edits.specs.LentBytes as lent_spec;
@@ -34,7 +33,7 @@ pub fn append<L: Ledger>(
     moved: &mut Steps<L>,
 ) -> Result<LocalReply, Halt>
     requires { IsWhole parts.old }
-    ensures answer { Answers (spec.append_of_own (exporter_of parts.old) value.now) (exporter_of parts.old) result (exporter_of parts.new) }
+    ensures answer { AnswersIn parts.old (λ e. spec.append_of_own e value.now) result parts.new }
     ensures counted { parts.new.exports ≡ exports_of (exporter_of parts.new) }
     ensures counter { OnOk result (moved.new + parts.new.bytes.room ≤ moved.old + parts.old.bytes.room) }
     ensures few { OnOk result (moved.new ≤ moved.old + length parts.old.bytes.items) }
@@ -58,7 +57,7 @@ fn insert_byte<L: Ledger>(
     moved: &mut Steps<L>,
 ) -> Result<LocalReply, Halt>
     requires { IsWhole parts.old }
-    ensures answer { Answers (spec.inserted (exporter_of parts.old) index.now value.now) (exporter_of parts.old) result (exporter_of parts.new) }
+    ensures answer { AnswersIn parts.old (λ e. spec.inserted e index.now value.now) result parts.new }
     ensures counted { parts.new.exports ≡ exports_of (exporter_of parts.new) }
     ensures few { OnOk result (moved.new ≤ moved.old + (length parts.old.bytes.items + length parts.new.bytes.items)) }
     ensures err_room { OnErr result (parts.new.bytes.room ≡ parts.old.bytes.room) }
@@ -81,7 +80,7 @@ pub fn insert<L: Ledger>(
     moved: &mut Steps<L>,
 ) -> Result<LocalReply, Halt>
     requires { IsWhole parts.old }
-    ensures answer { Answers (spec.insert_of_own (exporter_of parts.old) index.now value.now) (exporter_of parts.old) result (exporter_of parts.new) }
+    ensures answer { AnswersIn parts.old (λ e. spec.insert_of_own e index.now value.now) result parts.new }
     ensures counted { parts.new.exports ≡ exports_of (exporter_of parts.new) }
     ensures few { OnOk result (moved.new ≤ moved.old + (length parts.old.bytes.items + length parts.new.bytes.items)) }
     ensures err_room { OnErr result (parts.new.bytes.room ≡ parts.old.bytes.room) }
@@ -108,7 +107,7 @@ fn copies_of(alloc: Global, bytes: &[u8], times: usize) -> Made<Vec<u8>>
 /// Makes the bytes stand there so many times: each copy is written where it stays.
 fn repeat_bytes(parts: &mut Parts, times: usize) -> Result<LocalReply, Halt>
     requires { IsWhole parts.old }
-    ensures answer { Answers (spec.repeated (exporter_of parts.old) times) (exporter_of parts.old) result (exporter_of parts.new) }
+    ensures answer { AnswersIn parts.old (λ e. spec.repeated e times) result parts.new }
     ensures counted { parts.new.exports ≡ exports_of (exporter_of parts.new) }
     ensures err_room { OnErr result (parts.new.bytes.room ≡ parts.old.bytes.room) }
     ensures long { OnOk result (length parts.new.bytes.items ≡ length parts.old.bytes.items * times) }
@@ -125,7 +124,7 @@ fn repeat_bytes(parts: &mut Parts, times: usize) -> Result<LocalReply, Halt>
 /// The same, where no byte so many times asks for nothing.
 fn repeat(parts: &mut Parts, times: usize) -> Result<LocalReply, Halt>
     requires { IsWhole parts.old }
-    ensures answer { Answers (spec.repeated_unless_empty (exporter_of parts.old) times) (exporter_of parts.old) result (exporter_of parts.new) }
+    ensures answer { AnswersIn parts.old (λ e. spec.repeated_unless_empty e times) result parts.new }
     ensures counted { parts.new.exports ≡ exports_of (exporter_of parts.new) }
     ensures err_room { OnErr result (parts.new.bytes.room ≡ parts.old.bytes.room) }
     ensures still_room { (times ≡ 1 → ⊥) → OnOk result (length parts.new.bytes.items ≡ length parts.old.bytes.items → parts.new.bytes.room ≡ parts.old.bytes.room) }
@@ -138,7 +137,7 @@ fn repeat(parts: &mut Parts, times: usize) -> Result<LocalReply, Halt>
 
 fn multiply(parts: &mut Parts, count: &Value) -> Result<LocalReply, Halt>
     requires { IsWhole parts.old }
-    ensures answer { Answers (spec.multiplied (exporter_of parts.old) count.now) (exporter_of parts.old) result (exporter_of parts.new) }
+    ensures answer { AnswersIn parts.old (λ e. spec.multiplied e count.now) result parts.new }
     ensures counted { parts.new.exports ≡ exports_of (exporter_of parts.new) }
     ensures err_room { OnErr result (parts.new.bytes.room ≡ parts.old.bytes.room) }
     ensures still_room { OnOk result (length parts.new.bytes.items ≡ length parts.old.bytes.items → parts.new.bytes.room ≡ parts.old.bytes.room) }
@@ -156,7 +155,7 @@ fn multiply(parts: &mut Parts, count: &Value) -> Result<LocalReply, Halt>
 /// Makes the bytes of a bytearray stand there so many times, and not at all where the number is negative.
 pub fn imul(parts: &mut Parts, count: &Value) -> Result<LocalReply, Halt>
     requires { IsWhole parts.old }
-    ensures answer { Answers (spec.imul_of_own (exporter_of parts.old) count.now) (exporter_of parts.old) result (exporter_of parts.new) }
+    ensures answer { AnswersIn parts.old (λ e. spec.imul_of_own e count.now) result parts.new }
     ensures counted { parts.new.exports ≡ exports_of (exporter_of parts.new) }
     ensures err_room { OnErr result (parts.new.bytes.room ≡ parts.old.bytes.room) }
     ensures still_room { OnOk result (length parts.new.bytes.items ≡ length parts.old.bytes.items → parts.new.bytes.room ≡ parts.old.bytes.room) }
@@ -170,7 +169,7 @@ pub fn imul(parts: &mut Parts, count: &Value) -> Result<LocalReply, Halt>
 /// Adds bytes that lie outside the exporter.
 fn add<L: Ledger>(parts: &mut Parts, bytes: &[u8], moved: &mut Steps<L>) -> Result<LocalReply, Halt>
     requires { IsWhole parts.old }
-    ensures answer { Answers (lent_spec.bytes_added (exporter_of parts.old) bytes.now) (exporter_of parts.old) result (exporter_of parts.new) }
+    ensures answer { AnswersIn parts.old (λ e. lent_spec.bytes_added e bytes.now) result parts.new }
     ensures counted { parts.new.exports ≡ exports_of (exporter_of parts.new) }
     ensures counter { OnOk result (moved.new + parts.new.bytes.room ≤ moved.old + parts.old.bytes.room) }
     ensures few { OnOk result (moved.new ≤ moved.old + length parts.old.bytes.items) }
@@ -191,7 +190,7 @@ fn extend_by_other<L: Ledger>(
 ) -> Result<LocalReply, Halt>
     requires whole { IsWhole parts.old }
     requires sound { names_spec.IsSoundOther other }
-    ensures answer { Answers (lent_spec.extended_by (exporter_of parts.old) (names_spec.snap_of_other other.entry)) (exporter_of parts.old) result (exporter_of parts.new) }
+    ensures answer { AnswersIn parts.old (λ e. lent_spec.extended_by e (names_spec.snap_of_other other.entry)) result parts.new }
     ensures counted { parts.new.exports ≡ exports_of (exporter_of parts.new) }
     ensures counter { OnOk result (moved.new + parts.new.bytes.room ≤ moved.old + parts.old.bytes.room) }
     ensures few { OnOk result (moved.new ≤ moved.old + length parts.old.bytes.items) }
@@ -212,7 +211,7 @@ fn extend_by_meaning<L: Ledger>(
 ) -> Result<LocalReply, Halt>
     requires whole { IsWhole parts.old }
     requires sound { names_spec.IsSoundMeaning meaning }
-    ensures answer { Answers (lent_spec.extended_as (exporter_of parts.old) (names_spec.meant meaning.entry)) (exporter_of parts.old) result (exporter_of parts.new) }
+    ensures answer { AnswersIn parts.old (λ e. lent_spec.extended_as e (names_spec.meant meaning.entry)) result parts.new }
     ensures counted { parts.new.exports ≡ exports_of (exporter_of parts.new) }
     ensures counter { is_own (subject_in (names_spec.meant meaning.entry)) ≡ false → OnOk result (moved.new + parts.new.bytes.room ≤ moved.old + parts.old.bytes.room) }
     ensures few { OnOk result (moved.new ≤ moved.old + length parts.old.bytes.items) }
@@ -238,7 +237,7 @@ fn extend_by_parts<L: Ledger>(
     moved: &mut Steps<L>,
 ) -> Result<LocalReply, Halt>
     requires { IsWhole parts.old }
-    ensures answer { Answers (spec.extended (exporter_of parts.old) value.now []) (exporter_of parts.old) result (exporter_of parts.new) }
+    ensures answer { AnswersIn parts.old (λ e. spec.extended e value.now []) result parts.new }
     ensures counted { parts.new.exports ≡ exports_of (exporter_of parts.new) }
     ensures counter { OnOk result (moved.new + parts.new.bytes.room ≤ moved.old + parts.old.bytes.room) }
     ensures few { OnOk result (moved.new ≤ moved.old + length parts.old.bytes.items) }
@@ -258,15 +257,15 @@ fn extend_by_value<N: Names, L: Ledger>(
 ) -> Result<LocalReply, Halt>
     requires whole { IsWhole parts.old }
     requires fit { N.fit names.now }
-    ensures answer { Answers (spec.extended_or_doubled (exporter_of parts.old) value.now (lents_by (exporter_of parts.old) (N.named names.now) (handle_of_value value.now))) (exporter_of parts.old) result (exporter_of parts.new) }
+    ensures answer { AnswersIn parts.old (λ e. spec.extended_or_doubled e value.now (lents_of_value e (N.named names.now) value.now)) result parts.new }
     ensures counted { parts.new.exports ≡ exports_of (exporter_of parts.new) }
-    ensures counter { is_itself value.now (lents_by (exporter_of parts.old) (N.named names.now) (handle_of_value value.now)) ≡ false → OnOk result (moved.new + parts.new.bytes.room ≤ moved.old + parts.old.bytes.room) }
+    ensures counter { is_itself value.now (lents_of_value (exporter_of parts.old) (N.named names.now) value.now) ≡ false → OnOk result (moved.new + parts.new.bytes.room ≤ moved.old + parts.old.bytes.room) }
     ensures few { OnOk result (moved.new ≤ moved.old + length parts.old.bytes.items) }
-    ensures spare { is_itself value.now (lents_by (exporter_of parts.old) (N.named names.now) (handle_of_value value.now)) ≡ false → OnOk result (IsSpare parts.new.bytes) }
+    ensures spare { is_itself value.now (lents_of_value (exporter_of parts.old) (N.named names.now) value.now) ≡ false → OnOk result (IsSpare parts.new.bytes) }
     ensures err_room { OnErr result (parts.new.bytes.room ≡ parts.old.bytes.room) }
     ensures err_counter { OnErr result (moved.new ≡ moved.old) }
-    ensures still_room { is_itself value.now (lents_by (exporter_of parts.old) (N.named names.now) (handle_of_value value.now)) ≡ true → OnOk result (length parts.new.bytes.items ≡ length parts.old.bytes.items → parts.new.bytes.room ≡ parts.old.bytes.room) }
-    ensures still_counter { is_itself value.now (lents_by (exporter_of parts.old) (N.named names.now) (handle_of_value value.now)) ≡ true → OnOk result (moved.new ≡ moved.old) }
+    ensures still_room { is_itself value.now (lents_of_value (exporter_of parts.old) (N.named names.now) value.now) ≡ true → OnOk result (length parts.new.bytes.items ≡ length parts.old.bytes.items → parts.new.bytes.room ≡ parts.old.bytes.room) }
+    ensures still_counter { is_itself value.now (lents_of_value (exporter_of parts.old) (N.named names.now) value.now) ≡ true → OnOk result (moved.new ≡ moved.old) }
 {
     match value {
         Value::One(Scalar::Bytes(bytes)) => add(parts, bytes.as_slice(), moved),
@@ -289,15 +288,15 @@ pub fn extend<N: Names, L: Ledger>(
 ) -> Result<LocalReply, Halt>
     requires whole { IsWhole parts.old }
     requires fit { N.fit names.now }
-    ensures answer { Answers (spec.extend_of_own (exporter_of parts.old) value.now (lents_by (exporter_of parts.old) (N.named names.now) (handle_of_value value.now))) (exporter_of parts.old) result (exporter_of parts.new) }
+    ensures answer { AnswersIn parts.old (λ e. spec.extend_of_own e value.now (lents_of_value e (N.named names.now) value.now)) result parts.new }
     ensures counted { parts.new.exports ≡ exports_of (exporter_of parts.new) }
-    ensures counter { is_itself value.now (lents_by (exporter_of parts.old) (N.named names.now) (handle_of_value value.now)) ≡ false → OnOk result (moved.new + parts.new.bytes.room ≤ moved.old + parts.old.bytes.room) }
+    ensures counter { is_itself value.now (lents_of_value (exporter_of parts.old) (N.named names.now) value.now) ≡ false → OnOk result (moved.new + parts.new.bytes.room ≤ moved.old + parts.old.bytes.room) }
     ensures few { OnOk result (moved.new ≤ moved.old + length parts.old.bytes.items) }
-    ensures spare { is_itself value.now (lents_by (exporter_of parts.old) (N.named names.now) (handle_of_value value.now)) ≡ false → OnOk result (IsSpare parts.new.bytes) }
+    ensures spare { is_itself value.now (lents_of_value (exporter_of parts.old) (N.named names.now) value.now) ≡ false → OnOk result (IsSpare parts.new.bytes) }
     ensures err_room { OnErr result (parts.new.bytes.room ≡ parts.old.bytes.room) }
     ensures err_counter { OnErr result (moved.new ≡ moved.old) }
-    ensures still_room { is_itself value.now (lents_by (exporter_of parts.old) (N.named names.now) (handle_of_value value.now)) ≡ true → OnOk result (length parts.new.bytes.items ≡ length parts.old.bytes.items → parts.new.bytes.room ≡ parts.old.bytes.room) }
-    ensures still_counter { is_itself value.now (lents_by (exporter_of parts.old) (N.named names.now) (handle_of_value value.now)) ≡ true → OnOk result (moved.new ≡ moved.old) }
+    ensures still_room { is_itself value.now (lents_of_value (exporter_of parts.old) (N.named names.now) value.now) ≡ true → OnOk result (length parts.new.bytes.items ≡ length parts.old.bytes.items → parts.new.bytes.room ≡ parts.old.bytes.room) }
+    ensures still_counter { is_itself value.now (lents_of_value (exporter_of parts.old) (N.named names.now) value.now) ≡ true → OnOk result (moved.new ≡ moved.old) }
 {
     match parts.kind {
         ExporterKind::ByteArray => extend_by_value(parts, value, names, moved),
@@ -308,7 +307,7 @@ pub fn extend<N: Names, L: Ledger>(
 /// Adds the bytes of a view of the exporter itself, and reads none, as for `extend`.
 fn add_view(parts: &Parts, view: usize) -> Result<LocalReply, Halt>
     requires { IsWhole parts.now }
-    ensures answer { Answers (lent_spec.added_by (exporter_of parts.now) (snap_of_subject (exporter_of parts.now) (subjects.View view))) (exporter_of parts.now) result (exporter_of parts.now) }
+    ensures answer { AnswersIn parts.now (λ e. lent_spec.added_by e (snap_of_subject e (subjects.View view))) result parts.now }
     ensures refused { IsErr result }
 {
     let layout = parts.live_layout(view)?;
@@ -320,7 +319,7 @@ fn add_view(parts: &Parts, view: usize) -> Result<LocalReply, Halt>
 
 /// Adds nothing of an iterator, as for `extend`.
 fn add_iterator(parts: &Parts, iterator: usize) -> Result<LocalReply, Halt>
-    ensures { Answers (lent_spec.added_by (exporter_of parts.now) (snap_of_subject (exporter_of parts.now) (subjects.Iter iterator))) (exporter_of parts.now) result (exporter_of parts.now) }
+    ensures { AnswersIn parts.now (λ e. lent_spec.added_by e (snap_of_subject e (subjects.Iter iterator))) result parts.now }
 {
     parts.iterator(iterator)?;
     Err(Halt::Refused(Fault::Kind))
@@ -334,7 +333,7 @@ fn add_other<L: Ledger>(
 ) -> Result<LocalReply, Halt>
     requires whole { IsWhole parts.old }
     requires sound { names_spec.IsSoundOther other }
-    ensures answer { Answers (lent_spec.added_by (exporter_of parts.old) (names_spec.snap_of_other other.entry)) (exporter_of parts.old) result (exporter_of parts.new) }
+    ensures answer { AnswersIn parts.old (λ e. lent_spec.added_by e (names_spec.snap_of_other other.entry)) result parts.new }
     ensures counted { parts.new.exports ≡ exports_of (exporter_of parts.new) }
     ensures counter { OnOk result (moved.new + parts.new.bytes.room ≤ moved.old + parts.old.bytes.room) }
     ensures few { OnOk result (moved.new ≤ moved.old + length parts.old.bytes.items) }
@@ -355,7 +354,7 @@ fn add_meaning<L: Ledger>(
 ) -> Result<LocalReply, Halt>
     requires whole { IsWhole parts.old }
     requires sound { names_spec.IsSoundMeaning meaning }
-    ensures answer { Answers (lent_spec.added_as (exporter_of parts.old) (names_spec.meant meaning.entry)) (exporter_of parts.old) result (exporter_of parts.new) }
+    ensures answer { AnswersIn parts.old (λ e. lent_spec.added_as e (names_spec.meant meaning.entry)) result parts.new }
     ensures counted { parts.new.exports ≡ exports_of (exporter_of parts.new) }
     ensures counter { OnOk result (moved.new + parts.new.bytes.room ≤ moved.old + parts.old.bytes.room) }
     ensures few { OnOk result (moved.new ≤ moved.old + length parts.old.bytes.items) }
@@ -380,7 +379,7 @@ fn add_value<N: Names, L: Ledger>(
 ) -> Result<LocalReply, Halt>
     requires whole { IsWhole parts.old }
     requires fit { N.fit names.now }
-    ensures answer { Answers (spec.added (exporter_of parts.old) value.now (lents_by (exporter_of parts.old) (N.named names.now) (handle_of_value value.now))) (exporter_of parts.old) result (exporter_of parts.new) }
+    ensures answer { AnswersIn parts.old (λ e. spec.added e value.now (lents_of_value e (N.named names.now) value.now)) result parts.new }
     ensures counted { parts.new.exports ≡ exports_of (exporter_of parts.new) }
     ensures counter { OnOk result (moved.new + parts.new.bytes.room ≤ moved.old + parts.old.bytes.room) }
     ensures few { OnOk result (moved.new ≤ moved.old + length parts.old.bytes.items) }
@@ -405,7 +404,7 @@ pub fn iadd<N: Names, L: Ledger>(
 ) -> Result<LocalReply, Halt>
     requires whole { IsWhole parts.old }
     requires fit { N.fit names.now }
-    ensures answer { Answers (spec.iadd_of_own (exporter_of parts.old) value.now (lents_by (exporter_of parts.old) (N.named names.now) (handle_of_value value.now))) (exporter_of parts.old) result (exporter_of parts.new) }
+    ensures answer { AnswersIn parts.old (λ e. spec.iadd_of_own e value.now (lents_of_value e (N.named names.now) value.now)) result parts.new }
     ensures counted { parts.new.exports ≡ exports_of (exporter_of parts.new) }
     ensures counter { OnOk result (moved.new + parts.new.bytes.room ≤ moved.old + parts.old.bytes.room) }
     ensures few { OnOk result (moved.new ≤ moved.old + length parts.old.bytes.items) }

@@ -3,13 +3,13 @@ ghost use Rattle.std.specs.Prelude.{◌≡◌, ◌<◌, ◌≤◌, ◌+◌, ◌^
 ghost use Rattle.pybuf_value.specs.Halting.{Gives};
 ghost use Rattle.pybuf_value.specs.Lent.{lent_bytes};
 ghost use Rattle.pybuf_value.specs.Snaps.{content_of_named};
-ghost use Rattle.pybuf_command.specs.Handles.{handle_of_value, handle_of_option};
+ghost use Rattle.pybuf_command.specs.Handles.{handle_of_option};
 ghost use Rattle.pybuf_command.specs.declared.kinds.Subject.TheVariants as subjects;
 ghost use Rattle.pybuf_state.specs.Exporter.{exports_of};
-ghost use Rattle.pybuf_state.specs.Loans.{lents_by, snap_in};
+ghost use Rattle.pybuf_state.specs.Loans.{lents_by, snap_in, lents_of_value};
 ghost use Rattle.pybuf_state.specs.Names as names_spec;
 ghost use Rattle.pybuf_state.specs.Snaps.{snap_of_subject};
-ghost use Rattle.pybuf_state.specs.Answers.{exporter_of, IsWhole, Answers, Reads};
+ghost use Rattle.pybuf_state.specs.Answers.{exporter_of, IsWhole, AnswersIn, ReadsIn};
 ghost use Rattle.pybuf_index.specs.Parts.{picks_of};
 ghost use Rattle.pybuf_slice.specs.Edits.{assigned_list};
 ghost use Rattle.pybuf_verbs_edits.specs.Common as common;
@@ -63,7 +63,7 @@ fn put<L: Ledger>(
     moved: &mut Steps<L>,
 ) -> Result<LocalReply, Halt>
     requires { IsWhole parts.old }
-    ensures answer { Answers (spec.assigned (exporter_of parts.old) slice bytes.now) (exporter_of parts.old) result (exporter_of parts.new) }
+    ensures answer { AnswersIn parts.old (λ e. spec.assigned e slice bytes.now) result parts.new }
     ensures counted { parts.new.exports ≡ exports_of (exporter_of parts.new) }
     ensures few { OnOk result (moved.new ≤ moved.old + (length parts.old.bytes.items + length parts.new.bytes.items)) }
     ensures err_room { OnErr result (parts.new.bytes.room ≡ parts.old.bytes.room) }
@@ -91,7 +91,7 @@ fn put_own<L: Ledger>(
     moved: &mut Steps<L>,
 ) -> Result<LocalReply, Halt>
     requires { IsWhole parts.old }
-    ensures answer { Answers (lent_spec.assigned_by (exporter_of parts.old) slice (snap_of_subject (exporter_of parts.old) subjects.Own)) (exporter_of parts.old) result (exporter_of parts.new) }
+    ensures answer { AnswersIn parts.old (λ e. lent_spec.assigned_by e slice (snap_of_subject e subjects.Own)) result parts.new }
     ensures counted { parts.new.exports ≡ exports_of (exporter_of parts.new) }
     ensures few { OnOk result (moved.new ≤ moved.old + (length parts.old.bytes.items + length parts.new.bytes.items)) }
     ensures err_room { OnErr result (parts.new.bytes.room ≡ parts.old.bytes.room) }
@@ -121,7 +121,7 @@ fn put_view<L: Ledger>(
     moved: &mut Steps<L>,
 ) -> Result<LocalReply, Halt>
     requires { IsWhole parts.old }
-    ensures answer { Answers (lent_spec.assigned_by (exporter_of parts.old) slice (snap_of_subject (exporter_of parts.old) (subjects.View view))) (exporter_of parts.old) result (exporter_of parts.new) }
+    ensures answer { AnswersIn parts.old (λ e. lent_spec.assigned_by e slice (snap_of_subject e (subjects.View view))) result parts.new }
     ensures counted { parts.new.exports ≡ exports_of (exporter_of parts.new) }
     ensures few { OnOk result (moved.new ≤ moved.old + (length parts.old.bytes.items + length parts.new.bytes.items)) }
     ensures err_room { OnErr result (parts.new.bytes.room ≡ parts.old.bytes.room) }
@@ -135,7 +135,7 @@ fn put_view<L: Ledger>(
 
 /// Puts nothing there: an iterator has no bytes.
 fn put_iterator(parts: &Parts, slice: SaturatedSlice, iterator: usize) -> Result<LocalReply, Halt>
-    ensures { Answers (lent_spec.assigned_by (exporter_of parts.now) slice (snap_of_subject (exporter_of parts.now) (subjects.Iter iterator))) (exporter_of parts.now) result (exporter_of parts.now) }
+    ensures { AnswersIn parts.now (λ e. lent_spec.assigned_by e slice (snap_of_subject e (subjects.Iter iterator))) result parts.now }
 {
     parts.iterator(iterator)?;
     Err(Halt::Refused(Fault::Kind))
@@ -150,7 +150,7 @@ fn put_other<L: Ledger>(
 ) -> Result<LocalReply, Halt>
     requires whole { IsWhole parts.old }
     requires sound { names_spec.IsSoundOther other }
-    ensures answer { Answers (lent_spec.assigned_by (exporter_of parts.old) slice (names_spec.snap_of_other other.entry)) (exporter_of parts.old) result (exporter_of parts.new) }
+    ensures answer { AnswersIn parts.old (λ e. lent_spec.assigned_by e slice (names_spec.snap_of_other other.entry)) result parts.new }
     ensures counted { parts.new.exports ≡ exports_of (exporter_of parts.new) }
     ensures few { OnOk result (moved.new ≤ moved.old + (length parts.old.bytes.items + length parts.new.bytes.items)) }
     ensures err_room { OnErr result (parts.new.bytes.room ≡ parts.old.bytes.room) }
@@ -172,7 +172,7 @@ fn put_meaning<L: Ledger>(
 ) -> Result<LocalReply, Halt>
     requires whole { IsWhole parts.old }
     requires sound { names_spec.IsSoundMeaning meaning }
-    ensures answer { Answers (lent_spec.assigned_by (exporter_of parts.old) slice (snap_in (exporter_of parts.old) (names_spec.meant meaning.entry))) (exporter_of parts.old) result (exporter_of parts.new) }
+    ensures answer { AnswersIn parts.old (λ e. lent_spec.assigned_by e slice (snap_in e (names_spec.meant meaning.entry))) result parts.new }
     ensures counted { parts.new.exports ≡ exports_of (exporter_of parts.new) }
     ensures few { OnOk result (moved.new ≤ moved.old + (length parts.old.bytes.items + length parts.new.bytes.items)) }
     ensures err_room { OnErr result (parts.new.bytes.room ≡ parts.old.bytes.room) }
@@ -197,7 +197,7 @@ fn put_parts<L: Ledger>(
     moved: &mut Steps<L>,
 ) -> Result<LocalReply, Halt>
     requires { IsWhole parts.old }
-    ensures answer { Answers (spec.assigned_from (exporter_of parts.old) slice value.now []) (exporter_of parts.old) result (exporter_of parts.new) }
+    ensures answer { AnswersIn parts.old (λ e. spec.assigned_from e slice value.now []) result parts.new }
     ensures counted { parts.new.exports ≡ exports_of (exporter_of parts.new) }
     ensures few { OnOk result (moved.new ≤ moved.old + (length parts.old.bytes.items + length parts.new.bytes.items)) }
     ensures err_room { OnErr result (parts.new.bytes.room ≡ parts.old.bytes.room) }
@@ -218,7 +218,7 @@ fn put_value<N: Names, L: Ledger>(
 ) -> Result<LocalReply, Halt>
     requires whole { IsWhole parts.old }
     requires fit { N.fit names.now }
-    ensures answer { Answers (spec.assigned_from (exporter_of parts.old) slice value.now (lents_by (exporter_of parts.old) (N.named names.now) (handle_of_value value.now))) (exporter_of parts.old) result (exporter_of parts.new) }
+    ensures answer { AnswersIn parts.old (λ e. spec.assigned_from e slice value.now (lents_of_value e (N.named names.now) value.now)) result parts.new }
     ensures counted { parts.new.exports ≡ exports_of (exporter_of parts.new) }
     ensures few { OnOk result (moved.new ≤ moved.old + (length parts.old.bytes.items + length parts.new.bytes.items)) }
     ensures err_room { OnErr result (parts.new.bytes.room ≡ parts.old.bytes.room) }
@@ -247,7 +247,7 @@ fn set_slice<N: Names, L: Ledger>(
 ) -> Result<LocalReply, Halt>
     requires whole { IsWhole parts.old }
     requires fit { N.fit names.now }
-    ensures answer { Answers (spec.slice_set (exporter_of parts.old) slice.now value.now (lents_by (exporter_of parts.old) (N.named names.now) (handle_of_value value.now))) (exporter_of parts.old) result (exporter_of parts.new) }
+    ensures answer { AnswersIn parts.old (λ e. spec.slice_set e slice.now value.now (lents_of_value e (N.named names.now) value.now)) result parts.new }
     ensures counted { parts.new.exports ≡ exports_of (exporter_of parts.new) }
     ensures few { OnOk result (moved.new ≤ moved.old + (length parts.old.bytes.items + length parts.new.bytes.items)) }
     ensures err_room { OnErr result (parts.new.bytes.room ≡ parts.old.bytes.room) }
@@ -272,7 +272,7 @@ pub fn assign<N: Names, L: Ledger>(
 ) -> Result<LocalReply, Halt>
     requires whole { IsWhole parts.old }
     requires fit { N.fit names.now }
-    ensures answer { Answers (spec.assign_of_own (exporter_of parts.old) slice.now value.now (lents_by (exporter_of parts.old) (N.named names.now) (handle_of_value value.now))) (exporter_of parts.old) result (exporter_of parts.new) }
+    ensures answer { AnswersIn parts.old (λ e. spec.assign_of_own e slice.now value.now (lents_of_value e (N.named names.now) value.now)) result parts.new }
     ensures counted { parts.new.exports ≡ exports_of (exporter_of parts.new) }
     ensures few { OnOk result (moved.new ≤ moved.old + (length parts.old.bytes.items + length parts.new.bytes.items)) }
     ensures err_room { OnErr result (parts.new.bytes.room ≡ parts.old.bytes.room) }
@@ -291,7 +291,7 @@ pub fn assign<N: Names, L: Ledger>(
 /// Puts a vector in place of all bytes, as it is.
 fn replace_all(parts: &mut Parts, bytes: Vec<u8>) -> Result<LocalReply, Halt>
     requires { IsWhole parts.old }
-    ensures answer { Answers (spec.replaced_all (exporter_of parts.old) bytes.items) (exporter_of parts.old) result (exporter_of parts.new) }
+    ensures answer { AnswersIn parts.old (λ e. spec.replaced_all e bytes.items) result parts.new }
     ensures counted { parts.new.exports ≡ exports_of (exporter_of parts.new) }
     ensures err_room { OnErr result (parts.new.bytes.room ≡ parts.old.bytes.room) }
 {
@@ -316,7 +316,7 @@ fn vector_of(alloc: Global, bytes: Lent<'_>) -> Made<Vec<u8>>
 /// By the exporter itself: its bytes stay where they are.
 fn init_by_own(parts: &Parts) -> Result<LocalReply, Halt>
     requires { IsWhole parts.now }
-    ensures { Answers (lent_spec.initialized_by (exporter_of parts.now) (snap_of_subject (exporter_of parts.now) subjects.Own)) (exporter_of parts.now) result (exporter_of parts.now) }
+    ensures { AnswersIn parts.now (λ e. lent_spec.initialized_by e (snap_of_subject e subjects.Own)) result parts.now }
 {
     parts.resizable()?;
     Ok(LocalReply::Ok)
@@ -326,7 +326,7 @@ fn init_by_own(parts: &Parts) -> Result<LocalReply, Halt>
 fn init_by_other(parts: &mut Parts, other: Other<'_>) -> Result<LocalReply, Halt>
     requires whole { IsWhole parts.old }
     requires sound { names_spec.IsSoundOther other }
-    ensures answer { Answers (lent_spec.initialized_by (exporter_of parts.old) (names_spec.snap_of_other other.entry)) (exporter_of parts.old) result (exporter_of parts.new) }
+    ensures answer { AnswersIn parts.old (λ e. lent_spec.initialized_by e (names_spec.snap_of_other other.entry)) result parts.new }
     ensures counted { parts.new.exports ≡ exports_of (exporter_of parts.new) }
     ensures err_room { OnErr result (parts.new.bytes.room ≡ parts.old.bytes.room) }
 {
@@ -342,7 +342,7 @@ fn init_by_other(parts: &mut Parts, other: Other<'_>) -> Result<LocalReply, Halt
 fn init_by_meaning(parts: &mut Parts, meaning: Meaning<'_>) -> Result<LocalReply, Halt>
     requires whole { IsWhole parts.old }
     requires sound { names_spec.IsSoundMeaning meaning }
-    ensures answer { Answers (lent_spec.initialized_by (exporter_of parts.old) (snap_in (exporter_of parts.old) (names_spec.meant meaning.entry))) (exporter_of parts.old) result (exporter_of parts.new) }
+    ensures answer { AnswersIn parts.old (λ e. lent_spec.initialized_by e (snap_in e (names_spec.meant meaning.entry))) result parts.new }
     ensures counted { parts.new.exports ≡ exports_of (exporter_of parts.new) }
     ensures err_room { OnErr result (parts.new.bytes.room ≡ parts.old.bytes.room) }
 {
@@ -358,7 +358,7 @@ fn init_by_meaning(parts: &mut Parts, meaning: Meaning<'_>) -> Result<LocalReply
 /// By options that read the bytes of no handle.
 fn init_by_options(parts: &mut Parts, options: &ByteInnerNewOptions) -> Result<LocalReply, Halt>
     requires { IsWhole parts.old }
-    ensures answer { Answers (spec.initialized (exporter_of parts.old) options.now []) (exporter_of parts.old) result (exporter_of parts.new) }
+    ensures answer { AnswersIn parts.old (λ e. spec.initialized e options.now []) result parts.new }
     ensures counted { parts.new.exports ≡ exports_of (exporter_of parts.new) }
     ensures err_room { OnErr result (parts.new.bytes.room ≡ parts.old.bytes.room) }
 {
@@ -374,7 +374,7 @@ fn initialize<N: Names>(
 ) -> Result<LocalReply, Halt>
     requires whole { IsWhole parts.old }
     requires fit { N.fit names.now }
-    ensures answer { Answers (spec.initialized (exporter_of parts.old) options.now (lents_by (exporter_of parts.old) (N.named names.now) (handle_of_option options.now.source))) (exporter_of parts.old) result (exporter_of parts.new) }
+    ensures answer { AnswersIn parts.old (λ e. spec.initialized e options.now (lents_by e (N.named names.now) (handle_of_option options.now.source))) result parts.new }
     ensures counted { parts.new.exports ≡ exports_of (exporter_of parts.new) }
     ensures err_room { OnErr result (parts.new.bytes.room ≡ parts.old.bytes.room) }
 {
@@ -394,7 +394,7 @@ pub fn init<N: Names>(
 ) -> Result<LocalReply, Halt>
     requires whole { IsWhole parts.old }
     requires fit { N.fit names.now }
-    ensures answer { Answers (spec.init_of_own (exporter_of parts.old) options.now (lents_by (exporter_of parts.old) (N.named names.now) (handle_of_option options.now.source))) (exporter_of parts.old) result (exporter_of parts.new) }
+    ensures answer { AnswersIn parts.old (λ e. spec.init_of_own e options.now (lents_by e (N.named names.now) (handle_of_option options.now.source))) result parts.new }
     ensures counted { parts.new.exports ≡ exports_of (exporter_of parts.new) }
     ensures err_room { OnErr result (parts.new.bytes.room ≡ parts.old.bytes.room) }
 {
@@ -409,7 +409,7 @@ pub fn init<N: Names>(
 /// Turns the order of the bytes of a bytearray round, in place.
 pub fn reverse(parts: &mut Parts) -> Result<LocalReply, Halt>
     requires { IsWhole parts.old }
-    ensures answer { Answers (spec.reverse_of_own (exporter_of parts.old)) (exporter_of parts.old) result (exporter_of parts.new) }
+    ensures answer { AnswersIn parts.old spec.reverse_of_own result parts.new }
     ensures counted { parts.new.exports ≡ exports_of (exporter_of parts.new) }
     ensures room { parts.new.bytes.room ≡ parts.old.bytes.room }
 {
@@ -425,7 +425,7 @@ pub fn reverse(parts: &mut Parts) -> Result<LocalReply, Halt>
 /// Replies a copy of a bytearray, of which a new one is made.
 pub fn copy(parts: &Parts) -> Result<LocalReply, Halt>
     requires { IsWhole parts.now }
-    ensures { Reads (spec.copy_of_own (exporter_of parts.now)) (exporter_of parts.now) result }
+    ensures { ReadsIn parts.now spec.copy_of_own result }
 {
     match parts.kind {
         ExporterKind::ByteArray => match snap_of_subject(parts, parts.alloc, Subject::Own)? {

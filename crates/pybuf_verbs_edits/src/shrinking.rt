@@ -2,7 +2,7 @@
 ghost use Rattle.std.specs.Prelude.{◌≡◌, ◌≤◌, ◌<◌, ◌+◌, ◌^◌, ℕ, true, length, OnOk, OnErr};
 ghost use Rattle.pybuf_index.specs.Parts.{picks_of};
 ghost use Rattle.pybuf_state.specs.Exporter.{exports_of};
-ghost use Rattle.pybuf_state.specs.Answers.{exporter_of, IsWhole, Answers};
+ghost use Rattle.pybuf_state.specs.Answers.{exporter_of, IsWhole, AnswersIn};
 ghost use Rattle.pybuf_verbs_edits.specs.Counting as counting;
 ghost use Rattle.pybuf_verbs_edits.specs.Counting.{AreFirst, TakesFirst};
 ghost use Rattle.pybuf_verbs_edits.specs.Shrinking as spec;
@@ -30,7 +30,7 @@ fn pop_byte<L: Ledger>(
     moved: &mut Steps<L>,
 ) -> Result<LocalReply, Halt>
     requires { IsWhole parts.old }
-    ensures answer { Answers (spec.popped (exporter_of parts.old) index.now) (exporter_of parts.old) result (exporter_of parts.new) }
+    ensures answer { AnswersIn parts.old (λ e. spec.popped e index.now) result parts.new }
     ensures counted { parts.new.exports ≡ exports_of (exporter_of parts.new) }
     ensures few { OnOk result (moved.new ≤ moved.old + (length parts.old.bytes.items + length parts.new.bytes.items)) }
     ensures front_room { (n : ℕ) → TakesFirst (counting.popped_places (exporter_of parts.old) index.now) n → OnOk result (parts.new.bytes.room ≡ parts.old.bytes.room + n) }
@@ -57,7 +57,7 @@ pub fn pop<L: Ledger>(
     moved: &mut Steps<L>,
 ) -> Result<LocalReply, Halt>
     requires { IsWhole parts.old }
-    ensures answer { Answers (spec.pop_of_own (exporter_of parts.old) index.now) (exporter_of parts.old) result (exporter_of parts.new) }
+    ensures answer { AnswersIn parts.old (λ e. spec.pop_of_own e index.now) result parts.new }
     ensures counted { parts.new.exports ≡ exports_of (exporter_of parts.new) }
     ensures few { OnOk result (moved.new ≤ moved.old + (length parts.old.bytes.items + length parts.new.bytes.items)) }
     ensures front_room { (n : ℕ) → TakesFirst (counting.popped_places (exporter_of parts.old) index.now) n → OnOk result (parts.new.bytes.room ≡ parts.old.bytes.room + n) }
@@ -77,7 +77,7 @@ fn remove_byte<L: Ledger>(
     moved: &mut Steps<L>,
 ) -> Result<LocalReply, Halt>
     requires { IsWhole parts.old }
-    ensures answer { Answers (spec.removed (exporter_of parts.old) value.now) (exporter_of parts.old) result (exporter_of parts.new) }
+    ensures answer { AnswersIn parts.old (λ e. spec.removed e value.now) result parts.new }
     ensures counted { parts.new.exports ≡ exports_of (exporter_of parts.new) }
     ensures few { OnOk result (moved.new ≤ moved.old + (length parts.old.bytes.items + length parts.new.bytes.items)) }
     ensures front_room { (n : ℕ) → TakesFirst (counting.removed_places (exporter_of parts.old) value.now) n → OnOk result (parts.new.bytes.room ≡ parts.old.bytes.room + n) }
@@ -103,7 +103,7 @@ pub fn remove<L: Ledger>(
     moved: &mut Steps<L>,
 ) -> Result<LocalReply, Halt>
     requires { IsWhole parts.old }
-    ensures answer { Answers (spec.remove_of_own (exporter_of parts.old) value.now) (exporter_of parts.old) result (exporter_of parts.new) }
+    ensures answer { AnswersIn parts.old (λ e. spec.remove_of_own e value.now) result parts.new }
     ensures counted { parts.new.exports ≡ exports_of (exporter_of parts.new) }
     ensures few { OnOk result (moved.new ≤ moved.old + (length parts.old.bytes.items + length parts.new.bytes.items)) }
     ensures front_room { (n : ℕ) → TakesFirst (counting.removed_places (exporter_of parts.old) value.now) n → OnOk result (parts.new.bytes.room ≡ parts.old.bytes.room + n) }
@@ -119,7 +119,7 @@ pub fn remove<L: Ledger>(
 
 fn remove_all(parts: &mut Parts) -> Result<LocalReply, Halt>
     requires { IsWhole parts.old }
-    ensures answer { Answers (spec.cleared (exporter_of parts.old)) (exporter_of parts.old) result (exporter_of parts.new) }
+    ensures answer { AnswersIn parts.old spec.cleared result parts.new }
     ensures counted { parts.new.exports ≡ exports_of (exporter_of parts.new) }
     ensures err_room { OnErr result (parts.new.bytes.room ≡ parts.old.bytes.room) }
 {
@@ -131,7 +131,7 @@ fn remove_all(parts: &mut Parts) -> Result<LocalReply, Halt>
 /// Takes all bytes out of a bytearray.
 pub fn clear(parts: &mut Parts) -> Result<LocalReply, Halt>
     requires { IsWhole parts.old }
-    ensures answer { Answers (spec.clear_of_own (exporter_of parts.old)) (exporter_of parts.old) result (exporter_of parts.new) }
+    ensures answer { AnswersIn parts.old spec.clear_of_own result parts.new }
     ensures counted { parts.new.exports ≡ exports_of (exporter_of parts.new) }
     ensures err_room { OnErr result (parts.new.bytes.room ≡ parts.old.bytes.room) }
 {
@@ -147,7 +147,7 @@ fn delete_byte<L: Ledger>(
     moved: &mut Steps<L>,
 ) -> Result<LocalReply, Halt>
     requires { IsWhole parts.old }
-    ensures answer { Answers (spec.byte_deleted (exporter_of parts.old) key.now) (exporter_of parts.old) result (exporter_of parts.new) }
+    ensures answer { AnswersIn parts.old (λ e. spec.byte_deleted e key.now) result parts.new }
     ensures counted { parts.new.exports ≡ exports_of (exporter_of parts.new) }
     ensures front_room { (n : ℕ) → TakesFirst (counting.indexed_places (exporter_of parts.old) key.now) n → OnOk result (parts.new.bytes.room ≡ parts.old.bytes.room + n) }
     ensures front_counter { (n : ℕ) → TakesFirst (counting.indexed_places (exporter_of parts.old) key.now) n → OnOk result (moved.new ≡ moved.old) }
@@ -188,7 +188,7 @@ fn delete_slice<L: Ledger>(
     moved: &mut Steps<L>,
 ) -> Result<LocalReply, Halt>
     requires { IsWhole parts.old }
-    ensures answer { Answers (spec.slice_deleted (exporter_of parts.old) slice.now) (exporter_of parts.old) result (exporter_of parts.new) }
+    ensures answer { AnswersIn parts.old (λ e. spec.slice_deleted e slice.now) result parts.new }
     ensures counted { parts.new.exports ≡ exports_of (exporter_of parts.new) }
     ensures front_room { (n : ℕ) → TakesFirst (counting.sliced_places (exporter_of parts.old) slice.now) n → OnOk result (parts.new.bytes.room ≡ parts.old.bytes.room + n) }
     ensures front_counter { (n : ℕ) → TakesFirst (counting.sliced_places (exporter_of parts.old) slice.now) n → OnOk result (moved.new ≡ moved.old) }
@@ -216,7 +216,7 @@ fn delete_at<L: Ledger>(
     moved: &mut Steps<L>,
 ) -> Result<LocalReply, Halt>
     requires { IsWhole parts.old }
-    ensures answer { Answers (spec.deleted (exporter_of parts.old) key.now) (exporter_of parts.old) result (exporter_of parts.new) }
+    ensures answer { AnswersIn parts.old (λ e. spec.deleted e key.now) result parts.new }
     ensures counted { parts.new.exports ≡ exports_of (exporter_of parts.new) }
     ensures few { OnOk result (moved.new ≤ moved.old + (length parts.old.bytes.items + length parts.new.bytes.items)) }
     ensures front_room { (n : ℕ) → TakesFirst (counting.deleted_places (exporter_of parts.old) key.now) n → OnOk result (parts.new.bytes.room ≡ parts.old.bytes.room + n) }
@@ -238,7 +238,7 @@ pub fn delete<L: Ledger>(
     moved: &mut Steps<L>,
 ) -> Result<LocalReply, Halt>
     requires { IsWhole parts.old }
-    ensures answer { Answers (spec.delete_of_own (exporter_of parts.old) key.now) (exporter_of parts.old) result (exporter_of parts.new) }
+    ensures answer { AnswersIn parts.old (λ e. spec.delete_of_own e key.now) result parts.new }
     ensures counted { parts.new.exports ≡ exports_of (exporter_of parts.new) }
     ensures few { OnOk result (moved.new ≤ moved.old + (length parts.old.bytes.items + length parts.new.bytes.items)) }
     ensures front_room { (n : ℕ) → TakesFirst (counting.deleted_places (exporter_of parts.old) key.now) n → OnOk result (parts.new.bytes.room ≡ parts.old.bytes.room + n) }
@@ -254,7 +254,7 @@ pub fn delete<L: Ledger>(
 
 fn take_all(parts: &mut Parts) -> Result<LocalReply, Halt>
     requires { IsWhole parts.old }
-    ensures answer { Answers (spec.taken (exporter_of parts.old)) (exporter_of parts.old) result (exporter_of parts.new) }
+    ensures answer { AnswersIn parts.old spec.taken result parts.new }
     ensures counted { parts.new.exports ≡ exports_of (exporter_of parts.new) }
     ensures err_room { OnErr result (parts.new.bytes.room ≡ parts.old.bytes.room) }
 {
@@ -267,7 +267,7 @@ fn take_all(parts: &mut Parts) -> Result<LocalReply, Halt>
 /// Takes all bytes out of a vector, read-only or not. The reply is these bytes.
 pub fn take(parts: &mut Parts) -> Result<LocalReply, Halt>
     requires { IsWhole parts.old }
-    ensures answer { Answers (spec.take_of_own (exporter_of parts.old)) (exporter_of parts.old) result (exporter_of parts.new) }
+    ensures answer { AnswersIn parts.old spec.take_of_own result parts.new }
     ensures counted { parts.new.exports ≡ exports_of (exporter_of parts.new) }
     ensures err_room { OnErr result (parts.new.bytes.room ≡ parts.old.bytes.room) }
 {
