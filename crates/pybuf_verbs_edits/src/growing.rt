@@ -1,16 +1,16 @@
 //! Edits that add bytes.
-ghost use Rattle.std.specs.Prelude.{◌≡◌, ◌≤◌, ◌<◌, ◌+◌, ◌*◌, ◌^◌, [], length, true, false, IfOk, IsErr, OnOk, OnErr};
+ghost use Rattle.std.specs.Prelude.{◌≡◌, ◌<◌, ◌*◌, ◌^◌, [], length, IfOk, IsErr, OnOk, OnErr};
 ghost use Rattle.pybuf_command.specs.declared.kinds.Subject.TheVariants as subjects;
 ghost use Rattle.pybuf_slice.specs.Edits.{repeated_list};
-ghost use Rattle.pybuf_slice.specs.FrontContent.{IsSpare};
 ghost use Rattle.pybuf_state.specs.Exporter.{exports_of};
 ghost use Rattle.pybuf_state.specs.Loans.{subject_in, lents_of_value};
 ghost use Rattle.pybuf_state.specs.Names as names_spec;
 ghost use Rattle.pybuf_state.specs.Snaps.{snap_of_subject};
 ghost use Rattle.pybuf_state.specs.Answers.{exporter_of, IsWhole, AnswersIn};
-ghost use Rattle.pybuf_verbs_edits.specs.Common.{is_own, is_itself};
+ghost use Rattle.pybuf_verbs_edits.specs.Common.{is_own};
 ghost use Rattle.pybuf_verbs_edits.specs.Growing as spec;
 ghost use Rattle.pybuf_verbs_edits.specs.LentBytes as lent_spec;
+ghost use Rattle.pybuf_verbs_edits.specs.Paying.{IsPaid, EndIsPaid, ExtensionIsPaid, ValueIsPaid, LengthKeepsRoom};
 
 use crate::refusals::{refuse_iterator, refuse_view};
 use pybuf_command::{ExporterKind, LocalReply, Subject};
@@ -35,11 +35,7 @@ pub fn append<L: Ledger>(
     requires { IsWhole parts.old }
     ensures answer { AnswersIn parts.old (λ e. spec.append_of_own e value.now) result parts.new }
     ensures counted { parts.new.exports ≡ exports_of (exporter_of parts.new) }
-    ensures counter { OnOk result (moved.new + parts.new.bytes.room ≤ moved.old + parts.old.bytes.room) }
-    ensures few { OnOk result (moved.new ≤ moved.old + length parts.old.bytes.items) }
-    ensures spare { OnOk result (IsSpare parts.new.bytes) }
-    ensures err_room { OnErr result (parts.new.bytes.room ≡ parts.old.bytes.room) }
-    ensures err_counter { OnErr result (moved.new ≡ moved.old) }
+    ensures paid { EndIsPaid parts.old moved.old result parts.new moved.new }
 {
     let ExporterKind::ByteArray = parts.kind else {
         return Err(Halt::Refused(Fault::UnknownName));
@@ -59,9 +55,7 @@ fn insert_byte<L: Ledger>(
     requires { IsWhole parts.old }
     ensures answer { AnswersIn parts.old (λ e. spec.inserted e index.now value.now) result parts.new }
     ensures counted { parts.new.exports ≡ exports_of (exporter_of parts.new) }
-    ensures few { OnOk result (moved.new ≤ moved.old + (length parts.old.bytes.items + length parts.new.bytes.items)) }
-    ensures err_room { OnErr result (parts.new.bytes.room ≡ parts.old.bytes.room) }
-    ensures err_counter { OnErr result (moved.new ≡ moved.old) }
+    ensures paid { IsPaid parts.old moved.old result parts.new moved.new }
 {
     let number = count_in(index)?;
     let byte = value_from_object(value)?;
@@ -82,9 +76,7 @@ pub fn insert<L: Ledger>(
     requires { IsWhole parts.old }
     ensures answer { AnswersIn parts.old (λ e. spec.insert_of_own e index.now value.now) result parts.new }
     ensures counted { parts.new.exports ≡ exports_of (exporter_of parts.new) }
-    ensures few { OnOk result (moved.new ≤ moved.old + (length parts.old.bytes.items + length parts.new.bytes.items)) }
-    ensures err_room { OnErr result (parts.new.bytes.room ≡ parts.old.bytes.room) }
-    ensures err_counter { OnErr result (moved.new ≡ moved.old) }
+    ensures paid { IsPaid parts.old moved.old result parts.new moved.new }
 {
     match parts.kind {
         ExporterKind::ByteArray => insert_byte(parts, index, value, moved),
@@ -127,7 +119,7 @@ fn repeat(parts: &mut Parts, times: usize) -> Result<LocalReply, Halt>
     ensures answer { AnswersIn parts.old (λ e. spec.repeated_unless_empty e times) result parts.new }
     ensures counted { parts.new.exports ≡ exports_of (exporter_of parts.new) }
     ensures err_room { OnErr result (parts.new.bytes.room ≡ parts.old.bytes.room) }
-    ensures still_room { (times ≡ 1 → ⊥) → OnOk result (length parts.new.bytes.items ≡ length parts.old.bytes.items → parts.new.bytes.room ≡ parts.old.bytes.room) }
+    ensures still_room { (times ≡ 1 → ⊥) → LengthKeepsRoom parts.old result parts.new }
 {
     if parts.bytes.is_empty() {
         return Ok(LocalReply::Ok);
@@ -140,7 +132,7 @@ fn multiply(parts: &mut Parts, count: &Value) -> Result<LocalReply, Halt>
     ensures answer { AnswersIn parts.old (λ e. spec.multiplied e count.now) result parts.new }
     ensures counted { parts.new.exports ≡ exports_of (exporter_of parts.new) }
     ensures err_room { OnErr result (parts.new.bytes.room ≡ parts.old.bytes.room) }
-    ensures still_room { OnOk result (length parts.new.bytes.items ≡ length parts.old.bytes.items → parts.new.bytes.room ≡ parts.old.bytes.room) }
+    ensures still_room { LengthKeepsRoom parts.old result parts.new }
 {
     let number = count_in(count)?;
     if number == 1 {
@@ -158,7 +150,7 @@ pub fn imul(parts: &mut Parts, count: &Value) -> Result<LocalReply, Halt>
     ensures answer { AnswersIn parts.old (λ e. spec.imul_of_own e count.now) result parts.new }
     ensures counted { parts.new.exports ≡ exports_of (exporter_of parts.new) }
     ensures err_room { OnErr result (parts.new.bytes.room ≡ parts.old.bytes.room) }
-    ensures still_room { OnOk result (length parts.new.bytes.items ≡ length parts.old.bytes.items → parts.new.bytes.room ≡ parts.old.bytes.room) }
+    ensures still_room { LengthKeepsRoom parts.old result parts.new }
 {
     match parts.kind {
         ExporterKind::ByteArray => multiply(parts, count),
@@ -171,11 +163,7 @@ fn add<L: Ledger>(parts: &mut Parts, bytes: &[u8], moved: &mut Steps<L>) -> Resu
     requires { IsWhole parts.old }
     ensures answer { AnswersIn parts.old (λ e. lent_spec.bytes_added e bytes.now) result parts.new }
     ensures counted { parts.new.exports ≡ exports_of (exporter_of parts.new) }
-    ensures counter { OnOk result (moved.new + parts.new.bytes.room ≤ moved.old + parts.old.bytes.room) }
-    ensures few { OnOk result (moved.new ≤ moved.old + length parts.old.bytes.items) }
-    ensures spare { OnOk result (IsSpare parts.new.bytes) }
-    ensures err_room { OnErr result (parts.new.bytes.room ≡ parts.old.bytes.room) }
-    ensures err_counter { OnErr result (moved.new ≡ moved.old) }
+    ensures paid { EndIsPaid parts.old moved.old result parts.new moved.new }
 {
     parts.resizable()?;
     parts.append(bytes, moved)?;
@@ -192,11 +180,7 @@ fn extend_by_other<L: Ledger>(
     requires sound { names_spec.IsSoundOther other }
     ensures answer { AnswersIn parts.old (λ e. lent_spec.extended_by e (names_spec.snap_of_other other.entry)) result parts.new }
     ensures counted { parts.new.exports ≡ exports_of (exporter_of parts.new) }
-    ensures counter { OnOk result (moved.new + parts.new.bytes.room ≤ moved.old + parts.old.bytes.room) }
-    ensures few { OnOk result (moved.new ≤ moved.old + length parts.old.bytes.items) }
-    ensures spare { OnOk result (IsSpare parts.new.bytes) }
-    ensures err_room { OnErr result (parts.new.bytes.room ≡ parts.old.bytes.room) }
-    ensures err_counter { OnErr result (moved.new ≡ moved.old) }
+    ensures paid { EndIsPaid parts.old moved.old result parts.new moved.new }
 {
     let bytes = content_of_other(parts.alloc, other)?;
     add(parts, bytes.as_slice(), moved)
@@ -213,13 +197,7 @@ fn extend_by_meaning<L: Ledger>(
     requires sound { names_spec.IsSoundMeaning meaning }
     ensures answer { AnswersIn parts.old (λ e. lent_spec.extended_as e (names_spec.meant meaning.entry)) result parts.new }
     ensures counted { parts.new.exports ≡ exports_of (exporter_of parts.new) }
-    ensures counter { is_own (subject_in (names_spec.meant meaning.entry)) ≡ false → OnOk result (moved.new + parts.new.bytes.room ≤ moved.old + parts.old.bytes.room) }
-    ensures few { OnOk result (moved.new ≤ moved.old + length parts.old.bytes.items) }
-    ensures spare { is_own (subject_in (names_spec.meant meaning.entry)) ≡ false → OnOk result (IsSpare parts.new.bytes) }
-    ensures err_room { OnErr result (parts.new.bytes.room ≡ parts.old.bytes.room) }
-    ensures err_counter { OnErr result (moved.new ≡ moved.old) }
-    ensures still_room { is_own (subject_in (names_spec.meant meaning.entry)) ≡ true → OnOk result (length parts.new.bytes.items ≡ length parts.old.bytes.items → parts.new.bytes.room ≡ parts.old.bytes.room) }
-    ensures still_counter { is_own (subject_in (names_spec.meant meaning.entry)) ≡ true → OnOk result (moved.new ≡ moved.old) }
+    ensures paid { ExtensionIsPaid (is_own (subject_in (names_spec.meant meaning.entry))) parts.old moved.old result parts.new moved.new }
 {
     match meaning {
         Meaning::Own(Subject::Own) => repeat(parts, 2),
@@ -239,11 +217,7 @@ fn extend_by_parts<L: Ledger>(
     requires { IsWhole parts.old }
     ensures answer { AnswersIn parts.old (λ e. spec.extended e value.now []) result parts.new }
     ensures counted { parts.new.exports ≡ exports_of (exporter_of parts.new) }
-    ensures counter { OnOk result (moved.new + parts.new.bytes.room ≤ moved.old + parts.old.bytes.room) }
-    ensures few { OnOk result (moved.new ≤ moved.old + length parts.old.bytes.items) }
-    ensures spare { OnOk result (IsSpare parts.new.bytes) }
-    ensures err_room { OnErr result (parts.new.bytes.room ≡ parts.old.bytes.room) }
-    ensures err_counter { OnErr result (moved.new ≡ moved.old) }
+    ensures paid { EndIsPaid parts.old moved.old result parts.new moved.new }
 {
     let bytes = bytes_from_object(parts.alloc, value, &SnapList::new(parts.alloc)).done()?;
     add(parts, bytes.as_slice(), moved)
@@ -259,13 +233,7 @@ fn extend_by_value<N: Names, L: Ledger>(
     requires fit { N.fit names.now }
     ensures answer { AnswersIn parts.old (λ e. spec.extended_or_doubled e value.now (lents_of_value e (N.named names.now) value.now)) result parts.new }
     ensures counted { parts.new.exports ≡ exports_of (exporter_of parts.new) }
-    ensures counter { is_itself value.now (lents_of_value (exporter_of parts.old) (N.named names.now) value.now) ≡ false → OnOk result (moved.new + parts.new.bytes.room ≤ moved.old + parts.old.bytes.room) }
-    ensures few { OnOk result (moved.new ≤ moved.old + length parts.old.bytes.items) }
-    ensures spare { is_itself value.now (lents_of_value (exporter_of parts.old) (N.named names.now) value.now) ≡ false → OnOk result (IsSpare parts.new.bytes) }
-    ensures err_room { OnErr result (parts.new.bytes.room ≡ parts.old.bytes.room) }
-    ensures err_counter { OnErr result (moved.new ≡ moved.old) }
-    ensures still_room { is_itself value.now (lents_of_value (exporter_of parts.old) (N.named names.now) value.now) ≡ true → OnOk result (length parts.new.bytes.items ≡ length parts.old.bytes.items → parts.new.bytes.room ≡ parts.old.bytes.room) }
-    ensures still_counter { is_itself value.now (lents_of_value (exporter_of parts.old) (N.named names.now) value.now) ≡ true → OnOk result (moved.new ≡ moved.old) }
+    ensures paid { ValueIsPaid value.now (N.named names.now) parts.old moved.old result parts.new moved.new }
 {
     match value {
         Value::One(Scalar::Bytes(bytes)) => add(parts, bytes.as_slice(), moved),
@@ -290,13 +258,7 @@ pub fn extend<N: Names, L: Ledger>(
     requires fit { N.fit names.now }
     ensures answer { AnswersIn parts.old (λ e. spec.extend_of_own e value.now (lents_of_value e (N.named names.now) value.now)) result parts.new }
     ensures counted { parts.new.exports ≡ exports_of (exporter_of parts.new) }
-    ensures counter { is_itself value.now (lents_of_value (exporter_of parts.old) (N.named names.now) value.now) ≡ false → OnOk result (moved.new + parts.new.bytes.room ≤ moved.old + parts.old.bytes.room) }
-    ensures few { OnOk result (moved.new ≤ moved.old + length parts.old.bytes.items) }
-    ensures spare { is_itself value.now (lents_of_value (exporter_of parts.old) (N.named names.now) value.now) ≡ false → OnOk result (IsSpare parts.new.bytes) }
-    ensures err_room { OnErr result (parts.new.bytes.room ≡ parts.old.bytes.room) }
-    ensures err_counter { OnErr result (moved.new ≡ moved.old) }
-    ensures still_room { is_itself value.now (lents_of_value (exporter_of parts.old) (N.named names.now) value.now) ≡ true → OnOk result (length parts.new.bytes.items ≡ length parts.old.bytes.items → parts.new.bytes.room ≡ parts.old.bytes.room) }
-    ensures still_counter { is_itself value.now (lents_of_value (exporter_of parts.old) (N.named names.now) value.now) ≡ true → OnOk result (moved.new ≡ moved.old) }
+    ensures paid { ValueIsPaid value.now (N.named names.now) parts.old moved.old result parts.new moved.new }
 {
     match parts.kind {
         ExporterKind::ByteArray => extend_by_value(parts, value, names, moved),
@@ -335,11 +297,7 @@ fn add_other<L: Ledger>(
     requires sound { names_spec.IsSoundOther other }
     ensures answer { AnswersIn parts.old (λ e. lent_spec.added_by e (names_spec.snap_of_other other.entry)) result parts.new }
     ensures counted { parts.new.exports ≡ exports_of (exporter_of parts.new) }
-    ensures counter { OnOk result (moved.new + parts.new.bytes.room ≤ moved.old + parts.old.bytes.room) }
-    ensures few { OnOk result (moved.new ≤ moved.old + length parts.old.bytes.items) }
-    ensures spare { OnOk result (IsSpare parts.new.bytes) }
-    ensures err_room { OnErr result (parts.new.bytes.room ≡ parts.old.bytes.room) }
-    ensures err_counter { OnErr result (moved.new ≡ moved.old) }
+    ensures paid { EndIsPaid parts.old moved.old result parts.new moved.new }
 {
     let bytes = run_of_other(other)?;
     add(parts, bytes, moved)
@@ -356,11 +314,7 @@ fn add_meaning<L: Ledger>(
     requires sound { names_spec.IsSoundMeaning meaning }
     ensures answer { AnswersIn parts.old (λ e. lent_spec.added_as e (names_spec.meant meaning.entry)) result parts.new }
     ensures counted { parts.new.exports ≡ exports_of (exporter_of parts.new) }
-    ensures counter { OnOk result (moved.new + parts.new.bytes.room ≤ moved.old + parts.old.bytes.room) }
-    ensures few { OnOk result (moved.new ≤ moved.old + length parts.old.bytes.items) }
-    ensures spare { OnOk result (IsSpare parts.new.bytes) }
-    ensures err_room { OnErr result (parts.new.bytes.room ≡ parts.old.bytes.room) }
-    ensures err_counter { OnErr result (moved.new ≡ moved.old) }
+    ensures paid { EndIsPaid parts.old moved.old result parts.new moved.new }
 {
     match meaning {
         Meaning::Own(Subject::Own) => Err(Halt::Refused(Fault::Buffer)),
@@ -381,11 +335,7 @@ fn add_value<N: Names, L: Ledger>(
     requires fit { N.fit names.now }
     ensures answer { AnswersIn parts.old (λ e. spec.added e value.now (lents_of_value e (N.named names.now) value.now)) result parts.new }
     ensures counted { parts.new.exports ≡ exports_of (exporter_of parts.new) }
-    ensures counter { OnOk result (moved.new + parts.new.bytes.room ≤ moved.old + parts.old.bytes.room) }
-    ensures few { OnOk result (moved.new ≤ moved.old + length parts.old.bytes.items) }
-    ensures spare { OnOk result (IsSpare parts.new.bytes) }
-    ensures err_room { OnErr result (parts.new.bytes.room ≡ parts.old.bytes.room) }
-    ensures err_counter { OnErr result (moved.new ≡ moved.old) }
+    ensures paid { EndIsPaid parts.old moved.old result parts.new moved.new }
 {
     match value {
         Value::One(Scalar::Bytes(bytes)) => add(parts, bytes.as_slice(), moved),
@@ -406,11 +356,7 @@ pub fn iadd<N: Names, L: Ledger>(
     requires fit { N.fit names.now }
     ensures answer { AnswersIn parts.old (λ e. spec.iadd_of_own e value.now (lents_of_value e (N.named names.now) value.now)) result parts.new }
     ensures counted { parts.new.exports ≡ exports_of (exporter_of parts.new) }
-    ensures counter { OnOk result (moved.new + parts.new.bytes.room ≤ moved.old + parts.old.bytes.room) }
-    ensures few { OnOk result (moved.new ≤ moved.old + length parts.old.bytes.items) }
-    ensures spare { OnOk result (IsSpare parts.new.bytes) }
-    ensures err_room { OnErr result (parts.new.bytes.room ≡ parts.old.bytes.room) }
-    ensures err_counter { OnErr result (moved.new ≡ moved.old) }
+    ensures paid { EndIsPaid parts.old moved.old result parts.new moved.new }
 {
     match parts.kind {
         ExporterKind::ByteArray => add_value(parts, value, names, moved),

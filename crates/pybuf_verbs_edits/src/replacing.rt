@@ -1,5 +1,5 @@
 //! Edits that put bytes in place of others.
-ghost use Rattle.std.specs.Prelude.{◌≡◌, ◌<◌, ◌≤◌, ◌+◌, ◌^◌, [], length, None, Some, Ok, Err, IfOk, OnOk, OnErr, MatchResult};
+ghost use Rattle.std.specs.Prelude.{◌≡◌, ◌<◌, ◌^◌, [], length, None, Some, Ok, Err, IfOk, OnErr, MatchResult};
 ghost use Rattle.pybuf_value.specs.Halting.{Gives};
 ghost use Rattle.pybuf_value.specs.Lent.{lent_bytes};
 ghost use Rattle.pybuf_value.specs.Snaps.{content_of_named};
@@ -14,6 +14,7 @@ ghost use Rattle.pybuf_index.specs.Parts.{picks_of};
 ghost use Rattle.pybuf_slice.specs.Edits.{assigned_list};
 ghost use Rattle.pybuf_verbs_edits.specs.Common as common;
 ghost use Rattle.pybuf_verbs_edits.specs.LentBytes as lent_spec;
+ghost use Rattle.pybuf_verbs_edits.specs.Paying.{PutIsPaid};
 ghost use Rattle.pybuf_verbs_edits.specs.Replacing as spec;
 
 use crate::refusals::{refuse_iterator, refuse_view};
@@ -65,11 +66,7 @@ fn put<L: Ledger>(
     requires { IsWhole parts.old }
     ensures answer { AnswersIn parts.old (λ e. spec.assigned e slice bytes.now) result parts.new }
     ensures counted { parts.new.exports ≡ exports_of (exporter_of parts.new) }
-    ensures few { OnOk result (moved.new ≤ moved.old + (length parts.old.bytes.items + length parts.new.bytes.items)) }
-    ensures err_room { OnErr result (parts.new.bytes.room ≡ parts.old.bytes.room) }
-    ensures err_counter { OnErr result (moved.new ≡ moved.old) }
-    ensures still_room { OnOk result (length parts.new.bytes.items ≡ length parts.old.bytes.items → parts.new.bytes.room ≡ parts.old.bytes.room) }
-    ensures still_counter { OnOk result (length parts.new.bytes.items ≡ length parts.old.bytes.items → moved.new ≡ moved.old) }
+    ensures paid { PutIsPaid parts.old moved.old result parts.new moved.new }
 {
     let (range, step, count) = slice.adjust_indices(parts.bytes.len());
     if count == bytes.len() {
@@ -93,11 +90,7 @@ fn put_own<L: Ledger>(
     requires { IsWhole parts.old }
     ensures answer { AnswersIn parts.old (λ e. lent_spec.assigned_by e slice (snap_of_subject e subjects.Own)) result parts.new }
     ensures counted { parts.new.exports ≡ exports_of (exporter_of parts.new) }
-    ensures few { OnOk result (moved.new ≤ moved.old + (length parts.old.bytes.items + length parts.new.bytes.items)) }
-    ensures err_room { OnErr result (parts.new.bytes.room ≡ parts.old.bytes.room) }
-    ensures err_counter { OnErr result (moved.new ≡ moved.old) }
-    ensures still_room { OnOk result (length parts.new.bytes.items ≡ length parts.old.bytes.items → parts.new.bytes.room ≡ parts.old.bytes.room) }
-    ensures still_counter { OnOk result (length parts.new.bytes.items ≡ length parts.old.bytes.items → moved.new ≡ moved.old) }
+    ensures paid { PutIsPaid parts.old moved.old result parts.new moved.new }
 {
     let content = Vec::from_slice(parts.alloc, parts.bytes.as_slice())?;
     put(parts, slice, content.as_slice(), moved)
@@ -123,11 +116,7 @@ fn put_view<L: Ledger>(
     requires { IsWhole parts.old }
     ensures answer { AnswersIn parts.old (λ e. lent_spec.assigned_by e slice (snap_of_subject e (subjects.View view))) result parts.new }
     ensures counted { parts.new.exports ≡ exports_of (exporter_of parts.new) }
-    ensures few { OnOk result (moved.new ≤ moved.old + (length parts.old.bytes.items + length parts.new.bytes.items)) }
-    ensures err_room { OnErr result (parts.new.bytes.room ≡ parts.old.bytes.room) }
-    ensures err_counter { OnErr result (moved.new ≡ moved.old) }
-    ensures still_room { OnOk result (length parts.new.bytes.items ≡ length parts.old.bytes.items → parts.new.bytes.room ≡ parts.old.bytes.room) }
-    ensures still_counter { OnOk result (length parts.new.bytes.items ≡ length parts.old.bytes.items → moved.new ≡ moved.old) }
+    ensures paid { PutIsPaid parts.old moved.old result parts.new moved.new }
 {
     let content = content_of_view(parts, view)?;
     put(parts, slice, content.as_slice(), moved)
@@ -152,11 +141,7 @@ fn put_other<L: Ledger>(
     requires sound { names_spec.IsSoundOther other }
     ensures answer { AnswersIn parts.old (λ e. lent_spec.assigned_by e slice (names_spec.snap_of_other other.entry)) result parts.new }
     ensures counted { parts.new.exports ≡ exports_of (exporter_of parts.new) }
-    ensures few { OnOk result (moved.new ≤ moved.old + (length parts.old.bytes.items + length parts.new.bytes.items)) }
-    ensures err_room { OnErr result (parts.new.bytes.room ≡ parts.old.bytes.room) }
-    ensures err_counter { OnErr result (moved.new ≡ moved.old) }
-    ensures still_room { OnOk result (length parts.new.bytes.items ≡ length parts.old.bytes.items → parts.new.bytes.room ≡ parts.old.bytes.room) }
-    ensures still_counter { OnOk result (length parts.new.bytes.items ≡ length parts.old.bytes.items → moved.new ≡ moved.old) }
+    ensures paid { PutIsPaid parts.old moved.old result parts.new moved.new }
 {
     let bytes = content_of_other(parts.alloc, other)?;
     put(parts, slice, bytes.as_slice(), moved)
@@ -174,11 +159,7 @@ fn put_meaning<L: Ledger>(
     requires sound { names_spec.IsSoundMeaning meaning }
     ensures answer { AnswersIn parts.old (λ e. lent_spec.assigned_by e slice (snap_in e (names_spec.meant meaning.entry))) result parts.new }
     ensures counted { parts.new.exports ≡ exports_of (exporter_of parts.new) }
-    ensures few { OnOk result (moved.new ≤ moved.old + (length parts.old.bytes.items + length parts.new.bytes.items)) }
-    ensures err_room { OnErr result (parts.new.bytes.room ≡ parts.old.bytes.room) }
-    ensures err_counter { OnErr result (moved.new ≡ moved.old) }
-    ensures still_room { OnOk result (length parts.new.bytes.items ≡ length parts.old.bytes.items → parts.new.bytes.room ≡ parts.old.bytes.room) }
-    ensures still_counter { OnOk result (length parts.new.bytes.items ≡ length parts.old.bytes.items → moved.new ≡ moved.old) }
+    ensures paid { PutIsPaid parts.old moved.old result parts.new moved.new }
 {
     match meaning {
         Meaning::Own(Subject::Own) => put_own(parts, slice, moved),
@@ -199,11 +180,7 @@ fn put_parts<L: Ledger>(
     requires { IsWhole parts.old }
     ensures answer { AnswersIn parts.old (λ e. spec.assigned_from e slice value.now []) result parts.new }
     ensures counted { parts.new.exports ≡ exports_of (exporter_of parts.new) }
-    ensures few { OnOk result (moved.new ≤ moved.old + (length parts.old.bytes.items + length parts.new.bytes.items)) }
-    ensures err_room { OnErr result (parts.new.bytes.room ≡ parts.old.bytes.room) }
-    ensures err_counter { OnErr result (moved.new ≡ moved.old) }
-    ensures still_room { OnOk result (length parts.new.bytes.items ≡ length parts.old.bytes.items → parts.new.bytes.room ≡ parts.old.bytes.room) }
-    ensures still_counter { OnOk result (length parts.new.bytes.items ≡ length parts.old.bytes.items → moved.new ≡ moved.old) }
+    ensures paid { PutIsPaid parts.old moved.old result parts.new moved.new }
 {
     let bytes = bytes_from_object(parts.alloc, value, &SnapList::new(parts.alloc)).done()?;
     put(parts, slice, bytes.as_slice(), moved)
@@ -220,11 +197,7 @@ fn put_value<N: Names, L: Ledger>(
     requires fit { N.fit names.now }
     ensures answer { AnswersIn parts.old (λ e. spec.assigned_from e slice value.now (lents_of_value e (N.named names.now) value.now)) result parts.new }
     ensures counted { parts.new.exports ≡ exports_of (exporter_of parts.new) }
-    ensures few { OnOk result (moved.new ≤ moved.old + (length parts.old.bytes.items + length parts.new.bytes.items)) }
-    ensures err_room { OnErr result (parts.new.bytes.room ≡ parts.old.bytes.room) }
-    ensures err_counter { OnErr result (moved.new ≡ moved.old) }
-    ensures still_room { OnOk result (length parts.new.bytes.items ≡ length parts.old.bytes.items → parts.new.bytes.room ≡ parts.old.bytes.room) }
-    ensures still_counter { OnOk result (length parts.new.bytes.items ≡ length parts.old.bytes.items → moved.new ≡ moved.old) }
+    ensures paid { PutIsPaid parts.old moved.old result parts.new moved.new }
 {
     match value {
         Value::One(Scalar::Bytes(bytes)) => put(parts, slice, bytes.as_slice(), moved),
@@ -249,11 +222,7 @@ fn set_slice<N: Names, L: Ledger>(
     requires fit { N.fit names.now }
     ensures answer { AnswersIn parts.old (λ e. spec.slice_set e slice.now value.now (lents_of_value e (N.named names.now) value.now)) result parts.new }
     ensures counted { parts.new.exports ≡ exports_of (exporter_of parts.new) }
-    ensures few { OnOk result (moved.new ≤ moved.old + (length parts.old.bytes.items + length parts.new.bytes.items)) }
-    ensures err_room { OnErr result (parts.new.bytes.room ≡ parts.old.bytes.room) }
-    ensures err_counter { OnErr result (moved.new ≡ moved.old) }
-    ensures still_room { OnOk result (length parts.new.bytes.items ≡ length parts.old.bytes.items → parts.new.bytes.room ≡ parts.old.bytes.room) }
-    ensures still_counter { OnOk result (length parts.new.bytes.items ≡ length parts.old.bytes.items → moved.new ≡ moved.old) }
+    ensures paid { PutIsPaid parts.old moved.old result parts.new moved.new }
 {
     let slice = SaturatedSlice::with_slice(slice)?;
     put_value(parts, slice, value, names, moved)
@@ -274,11 +243,7 @@ pub fn assign<N: Names, L: Ledger>(
     requires fit { N.fit names.now }
     ensures answer { AnswersIn parts.old (λ e. spec.assign_of_own e slice.now value.now (lents_of_value e (N.named names.now) value.now)) result parts.new }
     ensures counted { parts.new.exports ≡ exports_of (exporter_of parts.new) }
-    ensures few { OnOk result (moved.new ≤ moved.old + (length parts.old.bytes.items + length parts.new.bytes.items)) }
-    ensures err_room { OnErr result (parts.new.bytes.room ≡ parts.old.bytes.room) }
-    ensures err_counter { OnErr result (moved.new ≡ moved.old) }
-    ensures still_room { OnOk result (length parts.new.bytes.items ≡ length parts.old.bytes.items → parts.new.bytes.room ≡ parts.old.bytes.room) }
-    ensures still_counter { OnOk result (length parts.new.bytes.items ≡ length parts.old.bytes.items → moved.new ≡ moved.old) }
+    ensures paid { PutIsPaid parts.old moved.old result parts.new moved.new }
 {
     match parts.kind {
         ExporterKind::ByteArray => set_slice(parts, slice, value, names, moved),

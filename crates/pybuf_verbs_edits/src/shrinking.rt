@@ -1,10 +1,11 @@
 //! Edits that take bytes out.
-ghost use Rattle.std.specs.Prelude.{◌≡◌, ◌≤◌, ◌<◌, ◌+◌, ◌^◌, ℕ, true, length, OnOk, OnErr};
+ghost use Rattle.std.specs.Prelude.{◌≡◌, ◌<◌, ◌+◌, ◌^◌, ℕ, true, length, OnErr};
 ghost use Rattle.pybuf_index.specs.Parts.{picks_of};
 ghost use Rattle.pybuf_state.specs.Exporter.{exports_of};
 ghost use Rattle.pybuf_state.specs.Answers.{exporter_of, IsWhole, AnswersIn};
 ghost use Rattle.pybuf_verbs_edits.specs.Counting as counting;
-ghost use Rattle.pybuf_verbs_edits.specs.Counting.{AreFirst, TakesFirst};
+ghost use Rattle.pybuf_verbs_edits.specs.Counting.{AreFirst};
+ghost use Rattle.pybuf_verbs_edits.specs.Paying.{FrontIsPaid};
 ghost use Rattle.pybuf_verbs_edits.specs.Shrinking as spec;
 
 use pybuf_byte_slices::close_up;
@@ -32,11 +33,7 @@ fn pop_byte<L: Ledger>(
     requires { IsWhole parts.old }
     ensures answer { AnswersIn parts.old (λ e. spec.popped e index.now) result parts.new }
     ensures counted { parts.new.exports ≡ exports_of (exporter_of parts.new) }
-    ensures few { OnOk result (moved.new ≤ moved.old + (length parts.old.bytes.items + length parts.new.bytes.items)) }
-    ensures front_room { (n : ℕ) → TakesFirst (counting.popped_places (exporter_of parts.old) index.now) n → OnOk result (parts.new.bytes.room ≡ parts.old.bytes.room + n) }
-    ensures front_counter { (n : ℕ) → TakesFirst (counting.popped_places (exporter_of parts.old) index.now) n → OnOk result (moved.new ≡ moved.old) }
-    ensures err_room { OnErr result (parts.new.bytes.room ≡ parts.old.bytes.room) }
-    ensures err_counter { OnErr result (moved.new ≡ moved.old) }
+    ensures paid { FrontIsPaid (counting.popped_places (exporter_of parts.old) index.now) parts.old moved.old result parts.new moved.new }
 {
     let number = count_or_last(index)?;
     parts.resizable()?;
@@ -59,11 +56,7 @@ pub fn pop<L: Ledger>(
     requires { IsWhole parts.old }
     ensures answer { AnswersIn parts.old (λ e. spec.pop_of_own e index.now) result parts.new }
     ensures counted { parts.new.exports ≡ exports_of (exporter_of parts.new) }
-    ensures few { OnOk result (moved.new ≤ moved.old + (length parts.old.bytes.items + length parts.new.bytes.items)) }
-    ensures front_room { (n : ℕ) → TakesFirst (counting.popped_places (exporter_of parts.old) index.now) n → OnOk result (parts.new.bytes.room ≡ parts.old.bytes.room + n) }
-    ensures front_counter { (n : ℕ) → TakesFirst (counting.popped_places (exporter_of parts.old) index.now) n → OnOk result (moved.new ≡ moved.old) }
-    ensures err_room { OnErr result (parts.new.bytes.room ≡ parts.old.bytes.room) }
-    ensures err_counter { OnErr result (moved.new ≡ moved.old) }
+    ensures paid { FrontIsPaid (counting.popped_places (exporter_of parts.old) index.now) parts.old moved.old result parts.new moved.new }
 {
     match parts.kind {
         ExporterKind::ByteArray => pop_byte(parts, index, moved),
@@ -79,11 +72,7 @@ fn remove_byte<L: Ledger>(
     requires { IsWhole parts.old }
     ensures answer { AnswersIn parts.old (λ e. spec.removed e value.now) result parts.new }
     ensures counted { parts.new.exports ≡ exports_of (exporter_of parts.new) }
-    ensures few { OnOk result (moved.new ≤ moved.old + (length parts.old.bytes.items + length parts.new.bytes.items)) }
-    ensures front_room { (n : ℕ) → TakesFirst (counting.removed_places (exporter_of parts.old) value.now) n → OnOk result (parts.new.bytes.room ≡ parts.old.bytes.room + n) }
-    ensures front_counter { (n : ℕ) → TakesFirst (counting.removed_places (exporter_of parts.old) value.now) n → OnOk result (moved.new ≡ moved.old) }
-    ensures err_room { OnErr result (parts.new.bytes.room ≡ parts.old.bytes.room) }
-    ensures err_counter { OnErr result (moved.new ≡ moved.old) }
+    ensures paid { FrontIsPaid (counting.removed_places (exporter_of parts.old) value.now) parts.old moved.old result parts.new moved.new }
 {
     let byte = value_from_object(value)?;
     parts.resizable()?;
@@ -105,11 +94,7 @@ pub fn remove<L: Ledger>(
     requires { IsWhole parts.old }
     ensures answer { AnswersIn parts.old (λ e. spec.remove_of_own e value.now) result parts.new }
     ensures counted { parts.new.exports ≡ exports_of (exporter_of parts.new) }
-    ensures few { OnOk result (moved.new ≤ moved.old + (length parts.old.bytes.items + length parts.new.bytes.items)) }
-    ensures front_room { (n : ℕ) → TakesFirst (counting.removed_places (exporter_of parts.old) value.now) n → OnOk result (parts.new.bytes.room ≡ parts.old.bytes.room + n) }
-    ensures front_counter { (n : ℕ) → TakesFirst (counting.removed_places (exporter_of parts.old) value.now) n → OnOk result (moved.new ≡ moved.old) }
-    ensures err_room { OnErr result (parts.new.bytes.room ≡ parts.old.bytes.room) }
-    ensures err_counter { OnErr result (moved.new ≡ moved.old) }
+    ensures paid { FrontIsPaid (counting.removed_places (exporter_of parts.old) value.now) parts.old moved.old result parts.new moved.new }
 {
     match parts.kind {
         ExporterKind::ByteArray => remove_byte(parts, value, moved),
@@ -149,11 +134,7 @@ fn delete_byte<L: Ledger>(
     requires { IsWhole parts.old }
     ensures answer { AnswersIn parts.old (λ e. spec.byte_deleted e key.now) result parts.new }
     ensures counted { parts.new.exports ≡ exports_of (exporter_of parts.new) }
-    ensures front_room { (n : ℕ) → TakesFirst (counting.indexed_places (exporter_of parts.old) key.now) n → OnOk result (parts.new.bytes.room ≡ parts.old.bytes.room + n) }
-    ensures front_counter { (n : ℕ) → TakesFirst (counting.indexed_places (exporter_of parts.old) key.now) n → OnOk result (moved.new ≡ moved.old) }
-    ensures few { OnOk result (moved.new ≤ moved.old + (length parts.old.bytes.items + length parts.new.bytes.items)) }
-    ensures err_room { OnErr result (parts.new.bytes.room ≡ parts.old.bytes.room) }
-    ensures err_counter { OnErr result (moved.new ≡ moved.old) }
+    ensures paid { FrontIsPaid (counting.indexed_places (exporter_of parts.old) key.now) parts.old moved.old result parts.new moved.new }
 {
     let index = index_in(key)?;
     parts.resizable()?;
@@ -190,11 +171,7 @@ fn delete_slice<L: Ledger>(
     requires { IsWhole parts.old }
     ensures answer { AnswersIn parts.old (λ e. spec.slice_deleted e slice.now) result parts.new }
     ensures counted { parts.new.exports ≡ exports_of (exporter_of parts.new) }
-    ensures front_room { (n : ℕ) → TakesFirst (counting.sliced_places (exporter_of parts.old) slice.now) n → OnOk result (parts.new.bytes.room ≡ parts.old.bytes.room + n) }
-    ensures front_counter { (n : ℕ) → TakesFirst (counting.sliced_places (exporter_of parts.old) slice.now) n → OnOk result (moved.new ≡ moved.old) }
-    ensures few { OnOk result (moved.new ≤ moved.old + (length parts.old.bytes.items + length parts.new.bytes.items)) }
-    ensures err_room { OnErr result (parts.new.bytes.room ≡ parts.old.bytes.room) }
-    ensures err_counter { OnErr result (moved.new ≡ moved.old) }
+    ensures paid { FrontIsPaid (counting.sliced_places (exporter_of parts.old) slice.now) parts.old moved.old result parts.new moved.new }
 {
     indices_of_a_slice();
     let slice = SaturatedSlice::with_slice(slice)?;
@@ -218,11 +195,7 @@ fn delete_at<L: Ledger>(
     requires { IsWhole parts.old }
     ensures answer { AnswersIn parts.old (λ e. spec.deleted e key.now) result parts.new }
     ensures counted { parts.new.exports ≡ exports_of (exporter_of parts.new) }
-    ensures few { OnOk result (moved.new ≤ moved.old + (length parts.old.bytes.items + length parts.new.bytes.items)) }
-    ensures front_room { (n : ℕ) → TakesFirst (counting.deleted_places (exporter_of parts.old) key.now) n → OnOk result (parts.new.bytes.room ≡ parts.old.bytes.room + n) }
-    ensures front_counter { (n : ℕ) → TakesFirst (counting.deleted_places (exporter_of parts.old) key.now) n → OnOk result (moved.new ≡ moved.old) }
-    ensures err_room { OnErr result (parts.new.bytes.room ≡ parts.old.bytes.room) }
-    ensures err_counter { OnErr result (moved.new ≡ moved.old) }
+    ensures paid { FrontIsPaid (counting.deleted_places (exporter_of parts.old) key.now) parts.old moved.old result parts.new moved.new }
 {
     match key {
         Value::Slice(slice) => delete_slice(parts, slice, moved),
@@ -240,11 +213,7 @@ pub fn delete<L: Ledger>(
     requires { IsWhole parts.old }
     ensures answer { AnswersIn parts.old (λ e. spec.delete_of_own e key.now) result parts.new }
     ensures counted { parts.new.exports ≡ exports_of (exporter_of parts.new) }
-    ensures few { OnOk result (moved.new ≤ moved.old + (length parts.old.bytes.items + length parts.new.bytes.items)) }
-    ensures front_room { (n : ℕ) → TakesFirst (counting.deleted_places (exporter_of parts.old) key.now) n → OnOk result (parts.new.bytes.room ≡ parts.old.bytes.room + n) }
-    ensures front_counter { (n : ℕ) → TakesFirst (counting.deleted_places (exporter_of parts.old) key.now) n → OnOk result (moved.new ≡ moved.old) }
-    ensures err_room { OnErr result (parts.new.bytes.room ≡ parts.old.bytes.room) }
-    ensures err_counter { OnErr result (moved.new ≡ moved.old) }
+    ensures paid { FrontIsPaid (counting.deleted_places (exporter_of parts.old) key.now) parts.old moved.old result parts.new moved.new }
 {
     match parts.kind {
         ExporterKind::ByteArray => delete_at(parts, key, moved),
