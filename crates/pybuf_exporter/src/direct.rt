@@ -9,6 +9,7 @@ ghost use Rattle.pybuf_state.specs.Exporter.{exports_of};
 ghost use Rattle.pybuf_state.specs.Loans.{lents_of_value};
 ghost use Rattle.pybuf_state.specs.Answers.{exporter_of, IsWhole, AnswersIn};
 ghost use Rattle.pybuf_exporter.specs.Step as spec;
+ghost use Rattle.pybuf_exporter.specs.Stepping.{AnswersBy};
 
 use crate::uncounted::pop as pop_of_own;
 use pybuf_command::{LoanList, LocalReply};
@@ -54,7 +55,7 @@ fn effect_of_set<N: Names>(
 /// A new view of all bytes.
 pub fn view_of_own(parts: &mut Parts, _loans: &LoanList) -> Result<LocalReply, Halt>
     requires { IsWhole parts.old }
-    ensures answer { AnswersIn parts.old (λ e. spec.answer_of e subjects.Own verbs.View _loans.now) result parts.new }
+    ensures answer { AnswersBy subjects.Own verbs.View _loans.now parts.old result parts.new }
     ensures counted { parts.new.exports ≡ exports_of (exporter_of parts.new) }
     ensures room { parts.new.bytes.room ≡ parts.old.bytes.room }
 {
@@ -64,7 +65,7 @@ pub fn view_of_own(parts: &mut Parts, _loans: &LoanList) -> Result<LocalReply, H
 /// A new view of the items of a view.
 pub fn view_of_view(parts: &mut Parts, view: usize, _loans: &LoanList) -> Result<LocalReply, Halt>
     requires { IsWhole parts.old }
-    ensures answer { AnswersIn parts.old (λ e. spec.answer_of e (subjects.View view) verbs.View _loans.now) result parts.new }
+    ensures answer { AnswersBy (subjects.View view) verbs.View _loans.now parts.old result parts.new }
     ensures counted { parts.new.exports ≡ exports_of (exporter_of parts.new) }
     ensures room { parts.new.bytes.room ≡ parts.old.bytes.room }
 {
@@ -74,7 +75,7 @@ pub fn view_of_view(parts: &mut Parts, view: usize, _loans: &LoanList) -> Result
 /// A view is released, as `with view` ends.
 pub fn exit_of_view(parts: &mut Parts, view: usize, _loans: &LoanList) -> Result<LocalReply, Halt>
     requires { IsWhole parts.old }
-    ensures answer { AnswersIn parts.old (λ e. spec.answer_of e (subjects.View view) verbs.Exit _loans.now) result parts.new }
+    ensures answer { AnswersBy (subjects.View view) verbs.Exit _loans.now parts.old result parts.new }
     ensures counted { parts.new.exports ≡ exports_of (exporter_of parts.new) }
     ensures room { parts.new.bytes.room ≡ parts.old.bytes.room }
 {
@@ -84,7 +85,7 @@ pub fn exit_of_view(parts: &mut Parts, view: usize, _loans: &LoanList) -> Result
 /// The byte of an exporter at an index, or the bytes that a slice picks.
 pub fn get_of_own(parts: &mut Parts, key: &Value, loans: &LoanList) -> Result<LocalReply, Halt>
     requires { IsWhole parts.old }
-    ensures answer { AnswersIn parts.old (λ e. spec.answer_of e subjects.Own (verbs.Get key.now) loans.now) result parts.new }
+    ensures answer { AnswersBy subjects.Own (verbs.Get key.now) loans.now parts.old result parts.new }
     ensures counted { parts.new.exports ≡ exports_of (exporter_of parts.new) }
     ensures room { parts.new.bytes.room ≡ parts.old.bytes.room }
 {
@@ -102,7 +103,7 @@ pub fn get_of_view(
     loans: &LoanList,
 ) -> Result<LocalReply, Halt>
     requires { IsWhole parts.old }
-    ensures answer { AnswersIn parts.old (λ e. spec.answer_of e (subjects.View view) (verbs.Get key.now) loans.now) result parts.new }
+    ensures answer { AnswersBy (subjects.View view) (verbs.Get key.now) loans.now parts.old result parts.new }
     ensures counted { parts.new.exports ≡ exports_of (exporter_of parts.new) }
     ensures room { parts.new.bytes.room ≡ parts.old.bytes.room }
 {
@@ -122,7 +123,7 @@ pub fn set_through_view(
 ) -> Result<LocalReply, Halt>
     requires whole { IsWhole parts.old }
     requires fit { LoansFit loans.now }
-    ensures answer { AnswersIn parts.old (λ e. spec.answer_of e (subjects.View view) (verbs.Set key.now value.now) loans.now) result parts.new }
+    ensures answer { AnswersBy (subjects.View view) (verbs.Set key.now value.now) loans.now parts.old result parts.new }
     ensures counted { parts.new.exports ≡ exports_of (exporter_of parts.new) }
     ensures room { parts.new.bytes.room ≡ parts.old.bytes.room }
 {
@@ -144,7 +145,7 @@ pub fn cast_of_view(
     loans: &LoanList,
 ) -> Result<LocalReply, Halt>
     requires { IsWhole parts.old }
-    ensures answer { AnswersIn parts.old (λ e. spec.answer_of e (subjects.View view) (verbs.Cast format.now shape.now) loans.now) result parts.new }
+    ensures answer { AnswersBy (subjects.View view) (verbs.Cast format.now shape.now) loans.now parts.old result parts.new }
     ensures counted { parts.new.exports ≡ exports_of (exporter_of parts.new) }
     ensures room { parts.new.bytes.room ≡ parts.old.bytes.room }
 {
@@ -160,7 +161,7 @@ pub fn cast_of_view(
 /// Takes the byte at an index out.
 pub fn pop(parts: &mut Parts, index: &Option<Value>, loans: &LoanList) -> Result<LocalReply, Halt>
     requires { IsWhole parts.old }
-    ensures answer { AnswersIn parts.old (λ e. spec.answer_of e subjects.Own (verbs.Pop index.now) loans.now) result parts.new }
+    ensures answer { AnswersBy subjects.Own (verbs.Pop index.now) loans.now parts.old result parts.new }
     ensures counted { parts.new.exports ≡ exports_of (exporter_of parts.new) }
     ensures err_room { OnErr result (parts.new.bytes.room ≡ parts.old.bytes.room) }
 {

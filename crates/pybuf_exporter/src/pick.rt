@@ -1,9 +1,8 @@
 //! Which effect a command has.
 ghost use Rattle.std.specs.Prelude.{◌≡◌, false};
 ghost use Rattle.pybuf_command.specs.declared.kinds.Subject.TheVariants as subjects;
-ghost use Rattle.pybuf_command.specs.Handles.{handles_of, handles_read};
+ghost use Rattle.pybuf_command.specs.Handles.{handles_of};
 ghost use Rattle.pybuf_state.specs.Exporter.{exports_of};
-ghost use Rattle.pybuf_state.specs.Loans.{lents_by};
 ghost use Rattle.pybuf_state.specs.Answers.{exporter_of, IsWhole, AnswersIn};
 ghost use Rattle.pybuf_verbs_edits.specs.Edits.{is_edit};
 ghost use Rattle.pybuf_verbs_edits.specs.Paying.{VerbIsPaid};
@@ -60,7 +59,7 @@ fn effect_without_edits<N: Names>(
     requires given { handles.now ≡ handles_of verb.now }
     requires fit { N.fit names.now }
     requires no_edit { is_edit verb.now ≡ false }
-    ensures answer { AnswersIn parts.old (λ e. spec.effect_on_own e verb.now (lents_by e (N.named names.now) (handles_read subjects.Own verb.now))) result parts.new }
+    ensures answer { AnswersIn parts.old (λ e. spec.effect_by e subjects.Own verb.now (N.named names.now)) result parts.new }
     ensures counted { parts.new.exports ≡ exports_of (exporter_of parts.new) }
     ensures room { parts.new.bytes.room ≡ parts.old.bytes.room }
 {
@@ -102,7 +101,7 @@ fn effect_on_own<N: Names, L: Ledger>(
     requires whole { IsWhole parts.old }
     requires given { handles.now ≡ handles_of verb.now }
     requires fit { N.fit names.now }
-    ensures answer { AnswersIn parts.old (λ e. spec.effect_on_own e verb.now (lents_by e (N.named names.now) (handles_read subjects.Own verb.now))) result parts.new }
+    ensures answer { AnswersIn parts.old (λ e. spec.effect_by e subjects.Own verb.now (N.named names.now)) result parts.new }
     ensures counted { parts.new.exports ≡ exports_of (exporter_of parts.new) }
     ensures paid { VerbIsPaid verb.now (N.named names.now) parts.old moved.old result parts.new moved.new }
     ensures kept_room { is_edit verb.now ≡ false → parts.new.bytes.room ≡ parts.old.bytes.room }
@@ -124,7 +123,7 @@ fn effect_on_view<N: Names>(
 ) -> Result<LocalReply, Halt>
     requires whole { IsWhole parts.old }
     requires fit { N.fit names.now }
-    ensures answer { AnswersIn parts.old (λ e. spec.effect_on_view e k verb.now (lents_by e (N.named names.now) (handles_read (subjects.View k) verb.now))) result parts.new }
+    ensures answer { AnswersIn parts.old (λ e. spec.effect_by e (subjects.View k) verb.now (N.named names.now)) result parts.new }
     ensures counted { parts.new.exports ≡ exports_of (exporter_of parts.new) }
     ensures room { parts.new.bytes.room ≡ parts.old.bytes.room }
 {

@@ -4,6 +4,7 @@
 use Rattle.std.specs.Prelude.{◌≡◌, ◌≤◌, ℕ, ◌+◌, Bool, true, false, List, length, Option, Result, OnOk, OnErr}
 use Rattle.pybuf_value.specs.declared.faults.Fault.{Fault}
 use Rattle.pybuf_value.specs.declared.halt.Halt.{Halt}
+use Rattle.pybuf_value.specs.declared.values.PySlice.{PySlice}
 use Rattle.pybuf_value.specs.declared.values.Value.{Value}
 use Rattle.pybuf_slice.specs.FrontContent.{IsSpare}
 use Rattle.pybuf_command.specs.declared.kinds.Subject.TheVariants as subject
@@ -15,7 +16,7 @@ use Rattle.pybuf_state.specs.declared.parts.Parts.{Parts}
 use Rattle.pybuf_state.specs.Answers.{exporter_of}
 use Rattle.pybuf_state.specs.Loans.{lents_by, lents_of_value}
 use Rattle.pybuf_verbs_edits.specs.Common.{is_itself}
-use Rattle.pybuf_verbs_edits.specs.Counting.{TakesFirst, taken_places, grows_at_end, can_leave_length}
+use Rattle.pybuf_verbs_edits.specs.Counting.{TakesFirst, popped_places, removed_places, indexed_places, sliced_places, deleted_places, taken_places, grows_at_end, can_leave_length}
 
 -- an edit that leaves the length as it was leaves the room
 abbrev pub LengthKeepsRoom : Parts → Result LocalReply Halt → Parts → Type 0
@@ -35,6 +36,26 @@ pub record FrontIsPaid (places : Result (List ℕ) Fault) (old : Parts) (before 
   pub front_counter : (n : ℕ) → TakesFirst places n → OnOk result (after ≡ before)
   pub err_room : OnErr result (new.bytes.room ≡ old.bytes.room)
   pub err_counter : OnErr result (after ≡ before)
+
+-- so it is of `pop` at an index
+abbrev pub PopIsPaid : Option Value → Parts → ℕ → Result LocalReply Halt → Parts → ℕ → Type 0
+PopIsPaid index old before result new after = FrontIsPaid (popped_places (exporter_of old) index) old before result new after
+
+-- of `remove`
+abbrev pub RemoveIsPaid : Value → Parts → ℕ → Result LocalReply Halt → Parts → ℕ → Type 0
+RemoveIsPaid v old before result new after = FrontIsPaid (removed_places (exporter_of old) v) old before result new after
+
+-- of `del` by an index
+abbrev pub DeleteByteIsPaid : Value → Parts → ℕ → Result LocalReply Halt → Parts → ℕ → Type 0
+DeleteByteIsPaid key old before result new after = FrontIsPaid (indexed_places (exporter_of old) key) old before result new after
+
+-- of `del` by a slice
+abbrev pub DeleteSliceIsPaid : PySlice → Parts → ℕ → Result LocalReply Halt → Parts → ℕ → Type 0
+DeleteSliceIsPaid slice old before result new after = FrontIsPaid (sliced_places (exporter_of old) slice) old before result new after
+
+-- and of `del` by either
+abbrev pub DeleteIsPaid : Value → Parts → ℕ → Result LocalReply Halt → Parts → ℕ → Type 0
+DeleteIsPaid key old before result new after = FrontIsPaid (deleted_places (exporter_of old) key) old before result new after
 
 -- Of an edit that adds bytes at the end: the room pays for the bytes that move, which are at most those that were
 -- there, and afterwards there is no room, or less than there are bytes.

@@ -1,9 +1,6 @@
 //! Which edit a command is.
 ghost use Rattle.std.specs.Prelude.{◌≡◌};
-ghost use Rattle.pybuf_command.specs.declared.kinds.Subject.TheVariants as subjects;
-ghost use Rattle.pybuf_command.specs.Handles.{handles_read};
 ghost use Rattle.pybuf_state.specs.Exporter.{exports_of};
-ghost use Rattle.pybuf_state.specs.Loans.{lents_by};
 ghost use Rattle.pybuf_state.specs.Answers.{exporter_of, IsWhole, AnswersIn, ReadsIn};
 ghost use Rattle.pybuf_verbs_edits.specs.Edits as spec;
 ghost use Rattle.pybuf_verbs_edits.specs.Paying.{VerbIsPaid};
@@ -28,7 +25,7 @@ pub fn edit_of_own<N: Names, L: Ledger>(
 ) -> Result<LocalReply, Halt>
     requires whole { IsWhole parts.old }
     requires fit { N.fit names.now }
-    ensures answer { AnswersIn parts.old (λ e. spec.edit_of_own e verb.now (lents_by e (N.named names.now) (handles_read subjects.Own verb.now))) result parts.new }
+    ensures answer { AnswersIn parts.old (λ e. spec.edit_by e verb.now (N.named names.now)) result parts.new }
     ensures counted { parts.new.exports ≡ exports_of (exporter_of parts.new) }
     ensures paid { VerbIsPaid verb.now (N.named names.now) parts.old moved.old result parts.new moved.new }
 {

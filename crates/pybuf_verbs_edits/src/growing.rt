@@ -5,7 +5,6 @@ ghost use Rattle.pybuf_slice.specs.Edits.{repeated_list};
 ghost use Rattle.pybuf_state.specs.Exporter.{exports_of};
 ghost use Rattle.pybuf_state.specs.Loans.{subject_in, lents_of_value};
 ghost use Rattle.pybuf_state.specs.Names as names_spec;
-ghost use Rattle.pybuf_state.specs.Snaps.{snap_of_subject};
 ghost use Rattle.pybuf_state.specs.Answers.{exporter_of, IsWhole, AnswersIn};
 ghost use Rattle.pybuf_verbs_edits.specs.Common.{is_own};
 ghost use Rattle.pybuf_verbs_edits.specs.Growing as spec;
@@ -269,7 +268,7 @@ pub fn extend<N: Names, L: Ledger>(
 /// Adds the bytes of a view of the exporter itself, and reads none, as for `extend`.
 fn add_view(parts: &Parts, view: usize) -> Result<LocalReply, Halt>
     requires { IsWhole parts.now }
-    ensures answer { AnswersIn parts.now (λ e. lent_spec.added_by e (snap_of_subject e (subjects.View view))) result parts.now }
+    ensures answer { AnswersIn parts.now (λ e. lent_spec.added_of e (subjects.View view)) result parts.now }
     ensures refused { IsErr result }
 {
     let layout = parts.live_layout(view)?;
@@ -281,7 +280,7 @@ fn add_view(parts: &Parts, view: usize) -> Result<LocalReply, Halt>
 
 /// Adds nothing of an iterator, as for `extend`.
 fn add_iterator(parts: &Parts, iterator: usize) -> Result<LocalReply, Halt>
-    ensures { AnswersIn parts.now (λ e. lent_spec.added_by e (snap_of_subject e (subjects.Iter iterator))) result parts.now }
+    ensures { AnswersIn parts.now (λ e. lent_spec.added_of e (subjects.Iter iterator)) result parts.now }
 {
     parts.iterator(iterator)?;
     Err(Halt::Refused(Fault::Kind))

@@ -6,7 +6,7 @@ ghost use Rattle.pybuf_value.specs.Snaps.{content_of_named};
 ghost use Rattle.pybuf_command.specs.Handles.{handle_of_option};
 ghost use Rattle.pybuf_command.specs.declared.kinds.Subject.TheVariants as subjects;
 ghost use Rattle.pybuf_state.specs.Exporter.{exports_of};
-ghost use Rattle.pybuf_state.specs.Loans.{lents_by, snap_in, lents_of_value};
+ghost use Rattle.pybuf_state.specs.Loans.{lents_by, lents_of_value};
 ghost use Rattle.pybuf_state.specs.Names as names_spec;
 ghost use Rattle.pybuf_state.specs.Snaps.{snap_of_subject};
 ghost use Rattle.pybuf_state.specs.Answers.{exporter_of, IsWhole, AnswersIn, ReadsIn};
@@ -88,7 +88,7 @@ fn put_own<L: Ledger>(
     moved: &mut Steps<L>,
 ) -> Result<LocalReply, Halt>
     requires { IsWhole parts.old }
-    ensures answer { AnswersIn parts.old (λ e. lent_spec.assigned_by e slice (snap_of_subject e subjects.Own)) result parts.new }
+    ensures answer { AnswersIn parts.old (λ e. lent_spec.assigned_of e slice subjects.Own) result parts.new }
     ensures counted { parts.new.exports ≡ exports_of (exporter_of parts.new) }
     ensures paid { PutIsPaid parts.old moved.old result parts.new moved.new }
 {
@@ -114,7 +114,7 @@ fn put_view<L: Ledger>(
     moved: &mut Steps<L>,
 ) -> Result<LocalReply, Halt>
     requires { IsWhole parts.old }
-    ensures answer { AnswersIn parts.old (λ e. lent_spec.assigned_by e slice (snap_of_subject e (subjects.View view))) result parts.new }
+    ensures answer { AnswersIn parts.old (λ e. lent_spec.assigned_of e slice (subjects.View view)) result parts.new }
     ensures counted { parts.new.exports ≡ exports_of (exporter_of parts.new) }
     ensures paid { PutIsPaid parts.old moved.old result parts.new moved.new }
 {
@@ -124,7 +124,7 @@ fn put_view<L: Ledger>(
 
 /// Puts nothing there: an iterator has no bytes.
 fn put_iterator(parts: &Parts, slice: SaturatedSlice, iterator: usize) -> Result<LocalReply, Halt>
-    ensures { AnswersIn parts.now (λ e. lent_spec.assigned_by e slice (snap_of_subject e (subjects.Iter iterator))) result parts.now }
+    ensures { AnswersIn parts.now (λ e. lent_spec.assigned_of e slice (subjects.Iter iterator)) result parts.now }
 {
     parts.iterator(iterator)?;
     Err(Halt::Refused(Fault::Kind))
@@ -157,7 +157,7 @@ fn put_meaning<L: Ledger>(
 ) -> Result<LocalReply, Halt>
     requires whole { IsWhole parts.old }
     requires sound { names_spec.IsSoundMeaning meaning }
-    ensures answer { AnswersIn parts.old (λ e. lent_spec.assigned_by e slice (snap_in e (names_spec.meant meaning.entry))) result parts.new }
+    ensures answer { AnswersIn parts.old (λ e. lent_spec.assigned_as e slice (names_spec.meant meaning.entry)) result parts.new }
     ensures counted { parts.new.exports ≡ exports_of (exporter_of parts.new) }
     ensures paid { PutIsPaid parts.old moved.old result parts.new moved.new }
 {
@@ -281,7 +281,7 @@ fn vector_of(alloc: Global, bytes: Lent<'_>) -> Made<Vec<u8>>
 /// By the exporter itself: its bytes stay where they are.
 fn init_by_own(parts: &Parts) -> Result<LocalReply, Halt>
     requires { IsWhole parts.now }
-    ensures { AnswersIn parts.now (λ e. lent_spec.initialized_by e (snap_of_subject e subjects.Own)) result parts.now }
+    ensures { AnswersIn parts.now (λ e. lent_spec.initialized_of e subjects.Own) result parts.now }
 {
     parts.resizable()?;
     Ok(LocalReply::Ok)
@@ -307,7 +307,7 @@ fn init_by_other(parts: &mut Parts, other: Other<'_>) -> Result<LocalReply, Halt
 fn init_by_meaning(parts: &mut Parts, meaning: Meaning<'_>) -> Result<LocalReply, Halt>
     requires whole { IsWhole parts.old }
     requires sound { names_spec.IsSoundMeaning meaning }
-    ensures answer { AnswersIn parts.old (λ e. lent_spec.initialized_by e (snap_in e (names_spec.meant meaning.entry))) result parts.new }
+    ensures answer { AnswersIn parts.old (λ e. lent_spec.initialized_as e (names_spec.meant meaning.entry)) result parts.new }
     ensures counted { parts.new.exports ≡ exports_of (exporter_of parts.new) }
     ensures err_room { OnErr result (parts.new.bytes.room ≡ parts.old.bytes.room) }
 {

@@ -3,9 +3,8 @@ ghost use Rattle.std.specs.Prelude.{◌≡◌, ◌<◌, ◌+◌, ◌^◌, ℕ, t
 ghost use Rattle.pybuf_index.specs.Parts.{picks_of};
 ghost use Rattle.pybuf_state.specs.Exporter.{exports_of};
 ghost use Rattle.pybuf_state.specs.Answers.{exporter_of, IsWhole, AnswersIn};
-ghost use Rattle.pybuf_verbs_edits.specs.Counting as counting;
 ghost use Rattle.pybuf_verbs_edits.specs.Counting.{AreFirst};
-ghost use Rattle.pybuf_verbs_edits.specs.Paying.{FrontIsPaid};
+ghost use Rattle.pybuf_verbs_edits.specs.Paying.{PopIsPaid, RemoveIsPaid, DeleteByteIsPaid, DeleteSliceIsPaid, DeleteIsPaid};
 ghost use Rattle.pybuf_verbs_edits.specs.Shrinking as spec;
 
 use pybuf_byte_slices::close_up;
@@ -33,7 +32,7 @@ fn pop_byte<L: Ledger>(
     requires { IsWhole parts.old }
     ensures answer { AnswersIn parts.old (λ e. spec.popped e index.now) result parts.new }
     ensures counted { parts.new.exports ≡ exports_of (exporter_of parts.new) }
-    ensures paid { FrontIsPaid (counting.popped_places (exporter_of parts.old) index.now) parts.old moved.old result parts.new moved.new }
+    ensures paid { PopIsPaid index.now parts.old moved.old result parts.new moved.new }
 {
     let number = count_or_last(index)?;
     parts.resizable()?;
@@ -56,7 +55,7 @@ pub fn pop<L: Ledger>(
     requires { IsWhole parts.old }
     ensures answer { AnswersIn parts.old (λ e. spec.pop_of_own e index.now) result parts.new }
     ensures counted { parts.new.exports ≡ exports_of (exporter_of parts.new) }
-    ensures paid { FrontIsPaid (counting.popped_places (exporter_of parts.old) index.now) parts.old moved.old result parts.new moved.new }
+    ensures paid { PopIsPaid index.now parts.old moved.old result parts.new moved.new }
 {
     match parts.kind {
         ExporterKind::ByteArray => pop_byte(parts, index, moved),
@@ -72,7 +71,7 @@ fn remove_byte<L: Ledger>(
     requires { IsWhole parts.old }
     ensures answer { AnswersIn parts.old (λ e. spec.removed e value.now) result parts.new }
     ensures counted { parts.new.exports ≡ exports_of (exporter_of parts.new) }
-    ensures paid { FrontIsPaid (counting.removed_places (exporter_of parts.old) value.now) parts.old moved.old result parts.new moved.new }
+    ensures paid { RemoveIsPaid value.now parts.old moved.old result parts.new moved.new }
 {
     let byte = value_from_object(value)?;
     parts.resizable()?;
@@ -94,7 +93,7 @@ pub fn remove<L: Ledger>(
     requires { IsWhole parts.old }
     ensures answer { AnswersIn parts.old (λ e. spec.remove_of_own e value.now) result parts.new }
     ensures counted { parts.new.exports ≡ exports_of (exporter_of parts.new) }
-    ensures paid { FrontIsPaid (counting.removed_places (exporter_of parts.old) value.now) parts.old moved.old result parts.new moved.new }
+    ensures paid { RemoveIsPaid value.now parts.old moved.old result parts.new moved.new }
 {
     match parts.kind {
         ExporterKind::ByteArray => remove_byte(parts, value, moved),
@@ -134,7 +133,7 @@ fn delete_byte<L: Ledger>(
     requires { IsWhole parts.old }
     ensures answer { AnswersIn parts.old (λ e. spec.byte_deleted e key.now) result parts.new }
     ensures counted { parts.new.exports ≡ exports_of (exporter_of parts.new) }
-    ensures paid { FrontIsPaid (counting.indexed_places (exporter_of parts.old) key.now) parts.old moved.old result parts.new moved.new }
+    ensures paid { DeleteByteIsPaid key.now parts.old moved.old result parts.new moved.new }
 {
     let index = index_in(key)?;
     parts.resizable()?;
@@ -171,7 +170,7 @@ fn delete_slice<L: Ledger>(
     requires { IsWhole parts.old }
     ensures answer { AnswersIn parts.old (λ e. spec.slice_deleted e slice.now) result parts.new }
     ensures counted { parts.new.exports ≡ exports_of (exporter_of parts.new) }
-    ensures paid { FrontIsPaid (counting.sliced_places (exporter_of parts.old) slice.now) parts.old moved.old result parts.new moved.new }
+    ensures paid { DeleteSliceIsPaid slice.now parts.old moved.old result parts.new moved.new }
 {
     indices_of_a_slice();
     let slice = SaturatedSlice::with_slice(slice)?;
@@ -195,7 +194,7 @@ fn delete_at<L: Ledger>(
     requires { IsWhole parts.old }
     ensures answer { AnswersIn parts.old (λ e. spec.deleted e key.now) result parts.new }
     ensures counted { parts.new.exports ≡ exports_of (exporter_of parts.new) }
-    ensures paid { FrontIsPaid (counting.deleted_places (exporter_of parts.old) key.now) parts.old moved.old result parts.new moved.new }
+    ensures paid { DeleteIsPaid key.now parts.old moved.old result parts.new moved.new }
 {
     match key {
         Value::Slice(slice) => delete_slice(parts, slice, moved),
@@ -213,7 +212,7 @@ pub fn delete<L: Ledger>(
     requires { IsWhole parts.old }
     ensures answer { AnswersIn parts.old (λ e. spec.delete_of_own e key.now) result parts.new }
     ensures counted { parts.new.exports ≡ exports_of (exporter_of parts.new) }
-    ensures paid { FrontIsPaid (counting.deleted_places (exporter_of parts.old) key.now) parts.old moved.old result parts.new moved.new }
+    ensures paid { DeleteIsPaid key.now parts.old moved.old result parts.new moved.new }
 {
     match parts.kind {
         ExporterKind::ByteArray => delete_at(parts, key, moved),

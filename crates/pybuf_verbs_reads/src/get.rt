@@ -1,5 +1,5 @@
 //! `get`: the item at a key, or the bytes that a slice picks.
-ghost use Rattle.std.specs.Prelude.{◌≡◌, ◌+◌, ◌≤◌, length, Ok, Err, IfOk, MatchResult};
+ghost use Rattle.std.specs.Prelude.{◌≡◌, ◌+◌, ◌≤◌, length, IfOk};
 ghost use Rattle.pybuf_value.specs.declared.values.Scalar.TheVariants as scalars;
 ghost use Rattle.pybuf_value.specs.declared.values.Value.TheVariants as values;
 ghost use Rattle.pybuf_desc.specs.Items.{bytes_at};

@@ -1,10 +1,9 @@
 //! `cast` and `castf`: a new view of the same bytes, with items of another format, in one dimension or in those of
 //! a shape, row by row or in column order. The format is one native code, and items of single bytes stand on one side at least.
-ghost use Rattle.std.specs.Prelude.{◌≡◌, ◌<◌, ◌≤◌, ◌*◌, ◌^◌, All, length, map, pos, true, None, Some, Ok, Err, IfOk, MatchResult};
+ghost use Rattle.std.specs.Prelude.{◌≡◌, ◌<◌, ◌≤◌, ◌*◌, ◌^◌, All, length, pos, true, None, Some, Ok, Err, IfOk};
 ghost use Rattle.std.specs.Prelude.{◌%◌, ◌==◌, ◌&&◌, not, false};
 ghost use Rattle.pybuf_value.specs.Halting.{Gives};
 ghost use Rattle.pybuf_value.specs.declared.values.Scalar.TheVariants as scalars;
-ghost use Rattle.pybuf_value.specs.declared.values.Value.TheVariants as values;
 ghost use Rattle.pybuf_desc.specs.Layouts.{product};
 ghost use Rattle.pybuf_desc.specs.Contiguous.{is_contiguous_layout};
 ghost use Rattle.pybuf_memoryview.specs.Orders.{nbytes_of};

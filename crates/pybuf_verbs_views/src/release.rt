@@ -1,5 +1,5 @@
 //! `release`: the view is released.
-ghost use Rattle.std.specs.Prelude.{◌≡◌, Ok, Err, OnErr, MatchResult};
+ghost use Rattle.std.specs.Prelude.{◌≡◌, OnErr};
 ghost use Rattle.pybuf_state.specs.Exporter.{exports_of};
 ghost use Rattle.pybuf_state.specs.Answers.{exporter_of, IsWhole, AnswersIn, ChangesTo};
 ghost use Rattle.pybuf_state.specs.Exporter.{released_in};

@@ -11,8 +11,8 @@ ghost use Rattle.pybuf_command.specs.declared.kinds.ExporterKind.TheVariants as 
 ghost use Rattle.pybuf_command.specs.declared.kinds.Subject.TheVariants as subjects;
 ghost use Rattle.pybuf_memoryview.specs.Fits.{fits_snap};
 ghost use Rattle.pybuf_memoryview.specs.Snaps.{snap_of_layout};
-ghost use Rattle.pybuf_state.specs.Exporter.{Exporter, exports_of, new_exporter};
-ghost use Rattle.pybuf_state.specs.Loans.{snap_in, lents_of_value};
+ghost use Rattle.pybuf_state.specs.Exporter.{Exporter, exports_of};
+ghost use Rattle.pybuf_state.specs.Loans.{lents_of_value};
 ghost use Rattle.pybuf_state.specs.Names as names_spec;
 ghost use Rattle.pybuf_state.specs.Snaps.{snap_of_exporter, snap_of_subject};
 ghost use Rattle.pybuf_state.specs.Answers.{exporter_of, IsWhole, Answers, AnswersIn, as_done, as_bytes};
