@@ -1,17 +1,22 @@
 -- How many bytes a command moves, and how the room before the bytes changes.
-use Rattle.std.specs.Prelude.{◌≡◌, ◌⊎◌, ℕ, ◌+◌, ◌<◌, ◌≤◌, Bool, true, false, List, [], ◌∷◌, length, Result, Err, IsOk, IsErr}
+use Rattle.std.specs.Prelude.{◌≡◌, ◌⊎◌, ℕ, ◌+◌, ◌<◌, ◌≤◌, Bool, true, false, List, [], ◌∷◌, length, Option, Result, Err, IsOk, IsErr}
 use Rattle.pybuf_value.specs.declared.faults.Fault.{Fault}
 use Rattle.pybuf_value.specs.declared.faults.Fault.TheVariants as fault
+use Rattle.pybuf_value.specs.declared.halt.Halt.{Halt}
 use Rattle.pybuf_command.specs.declared.kinds.Subject.{Subject}
 use Rattle.pybuf_command.specs.declared.kinds.Subject.TheVariants as subject
 use Rattle.pybuf_command.specs.declared.commands.Verb.{Verb}
 use Rattle.pybuf_command.specs.declared.commands.LocalReply.{LocalReply}
 use Rattle.pybuf_command.specs.declared.commands.LocalCommand.{LocalCommand}
+use Rattle.pybuf_command.specs.declared.loans.Loan.{Loan}
 use Rattle.pybuf_command.specs.Handles.{handles_read}
+use Rattle.pybuf_state.specs.declared.parts.Parts.{Parts}
+use Rattle.pybuf_state.specs.Answers.{exporter_of}
 use Rattle.pybuf_state.specs.Exporter.{Exporter}
-use Rattle.pybuf_state.specs.Loans.{Lent, lent_for_each}
+use Rattle.pybuf_state.specs.Loans.{Lent, lent_for_each, lents_by}
 use Rattle.pybuf_verbs_edits.specs.Counting.{taken_places, TakesFirst, grows_at_end, can_leave_length}
 use Rattle.pybuf_verbs_edits.specs.Edits.{is_edit}
+use Rattle.pybuf_verbs_edits.specs.Paying.{EditIsPaid}
 use Rattle.pybuf_exporter.specs.Step.{answer_of}
 use Rattle.pybuf_exporter.specs.Stored.{StoredExporter}
 
@@ -36,6 +41,12 @@ leaves_by _ v lents = false
 abbrev pub edits_by : Subject → Verb → Bool
 edits_by subject.Own v = is_edit v
 edits_by _ v = false
+
+-- what a command pays, by what each handle is lent as
+abbrev pub CommandIsPaid : Subject → Verb → (ℕ → Option Loan) → Parts → ℕ → Result LocalReply Halt → Parts → ℕ → Type 0
+CommandIsPaid s v named old before result new after =
+    EditIsPaid (taken_by (exporter_of old) s v) (grows_by s v (lents_by (exporter_of old) named (handles_read s v)))
+    (leaves_by s v (lents_by (exporter_of old) named (handles_read s v))) old before result new after
 
 -- The command takes out just the first n bytes.
 abbrev pub TakesFront : StoredExporter → LocalCommand → ℕ → Type 0

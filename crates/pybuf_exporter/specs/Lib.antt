@@ -1,5 +1,6 @@
 pub mod Step
 pub mod Effects
+pub mod Stepping
 pub mod Stored
 pub mod Lending
 pub mod Laws

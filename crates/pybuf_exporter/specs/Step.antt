@@ -110,6 +110,10 @@ effect e subject.Own v lents = effect_on_own e v lents
 effect e (subject.View k) v lents = effect_on_view e k v lents
 effect e (subject.Iter k) v lents = effect_on_iterator e k v
 
+-- the same by what each handle is lent as
+abbrev pub effect_by : Exporter → Subject → Verb → (ℕ → Option Loan) → Result (Exporter × LocalReply) Fault
+effect_by e s v named = effect e s v (lents_by e named (handles_read s v))
+
 -- The answer by what each handle is lent as. An unknown handle is refused before all else, even if the effect
 -- wouldn't look at the value that has it.
 abbrev pub answer_by : Exporter → Subject → Verb → (ℕ → Option Loan) → Result (Exporter × LocalReply) Fault

@@ -1,8 +1,8 @@
 //! Commands of which it is told how many bytes they move, and what room they leave before the bytes.
-ghost use Rattle.std.specs.Prelude.{◌≡◌, false, IfOk, OnOk, OnErr};
+ghost use Rattle.std.specs.Prelude.{◌≡◌, false, OnOk, OnErr};
 ghost use Rattle.pybuf_state.specs.Fits.{LoansFit};
 ghost use Rattle.pybuf_state.specs.Answers.{exporter_of, IsWhole};
-ghost use Rattle.pybuf_exporter.specs.Step.{estep};
+ghost use Rattle.pybuf_exporter.specs.Stepping.{CarriesOut};
 ghost use Rattle.pybuf_exporter.specs.Stored.{stored_of};
 ghost use Rattle.pybuf_exporter.specs.Counting.{Moves, edits_by};
 
@@ -22,7 +22,7 @@ pub(crate) fn step_of_parts<L: Ledger>(
 ) -> Made<LocalReply>
     requires whole { IsWhole parts.old }
     requires fit { LoansFit command.now.loans }
-    ensures ok { IfOk result (λ r. estep (exporter_of parts.old) command.now.subject command.now.verb command.now.loans ≡ (exporter_of parts.new, r)) }
+    ensures ok { CarriesOut command.now (exporter_of parts.old) result (exporter_of parts.new) }
     ensures err { OnErr result (stored_of parts.new ≡ stored_of parts.old) }
     ensures moves { OnOk result (Moves (stored_of parts.old) command.now moved.old (stored_of parts.new) moved.new) }
     ensures err_counter { OnErr result (moved.new ≡ moved.old) }
@@ -54,7 +54,7 @@ impl ExporterState {
         moved: &mut Steps<L>,
     ) -> Made<LocalReply>
         requires { LoansFit command.now.loans }
-        ensures ok { IfOk result (λ r. estep self.old.exporter command.now.subject command.now.verb command.now.loans ≡ (self.new.exporter, r)) }
+        ensures ok { CarriesOut command.now self.old.exporter result self.new.exporter }
         ensures moves { OnOk result (Moves self.old command.now moved.old self.new moved.new) }
         ensures err { OnErr result (self.new ≡ self.old) }
         ensures err_counter { OnErr result (moved.new ≡ moved.old) }

@@ -4,12 +4,12 @@ ghost use Rattle.std.specs.Prelude.{◌≡◌, true, false, IfOk, IfErr, OnOk, O
 ghost use Rattle.pybuf_value.specs.declared.faults.Fault.TheVariants as faults;
 ghost use Rattle.pybuf_command.specs.declared.commands.Verb.TheVariants as verbs;
 ghost use Rattle.pybuf_command.specs.declared.kinds.Subject.TheVariants as subjects;
-ghost use Rattle.pybuf_command.specs.Handles.{handle_of_value};
 ghost use Rattle.pybuf_state.specs.Fits.{LoansFit};
 ghost use Rattle.pybuf_state.specs.Exporter.{exports_of};
-ghost use Rattle.pybuf_state.specs.Loans.{are_named, lents_by};
-ghost use Rattle.pybuf_state.specs.Answers.{exporter_of, IsWhole, Answers};
+ghost use Rattle.pybuf_state.specs.Loans.{lents_of_value};
+ghost use Rattle.pybuf_state.specs.Answers.{exporter_of, IsWhole, AnswersIn};
 ghost use Rattle.pybuf_exporter.specs.Step as spec;
+ghost use Rattle.pybuf_exporter.specs.Stepping.{AnswersBy};
 
 use crate::uncounted::pop as pop_of_own;
 use pybuf_command::{LoanList, LocalReply};
@@ -22,7 +22,7 @@ use pybuf_verbs_writes::{assign, set};
 /// `get` of a view: a new view of the items that a slice picks, or the item that any other key names.
 fn effect_of_get(parts: &mut Parts, view: usize, key: &Value) -> Result<LocalReply, Halt>
     requires { IsWhole parts.old }
-    ensures answer { Answers (spec.get_of_view (exporter_of parts.old) view key.now) (exporter_of parts.old) result (exporter_of parts.new) }
+    ensures answer { AnswersIn parts.old (λ e. spec.get_of_view e view key.now) result parts.new }
     ensures counted { parts.new.exports ≡ exports_of (exporter_of parts.new) }
     ensures room { parts.new.bytes.room ≡ parts.old.bytes.room }
 {
@@ -42,7 +42,7 @@ fn effect_of_set<N: Names>(
 ) -> Result<LocalReply, Halt>
     requires whole { IsWhole parts.old }
     requires fit { N.fit names.now }
-    ensures answer { Answers (spec.set_through_view (exporter_of parts.old) view key.now value.now (lents_by (exporter_of parts.old) (N.named names.now) (handle_of_value value.now))) (exporter_of parts.old) result (exporter_of parts.new) }
+    ensures answer { AnswersIn parts.old (λ e. spec.set_through_view e view key.now value.now (lents_of_value e (N.named names.now) value.now)) result parts.new }
     ensures counted { parts.new.exports ≡ exports_of (exporter_of parts.new) }
     ensures room { parts.new.bytes.room ≡ parts.old.bytes.room }
 {
@@ -55,7 +55,7 @@ fn effect_of_set<N: Names>(
 /// A new view of all bytes.
 pub fn view_of_own(parts: &mut Parts, _loans: &LoanList) -> Result<LocalReply, Halt>
     requires { IsWhole parts.old }
-    ensures answer { Answers (spec.answer_of (exporter_of parts.old) subjects.Own verbs.View _loans.now) (exporter_of parts.old) result (exporter_of parts.new) }
+    ensures answer { AnswersBy subjects.Own verbs.View _loans.now parts.old result parts.new }
     ensures counted { parts.new.exports ≡ exports_of (exporter_of parts.new) }
     ensures room { parts.new.bytes.room ≡ parts.old.bytes.room }
 {
@@ -65,7 +65,7 @@ pub fn view_of_own(parts: &mut Parts, _loans: &LoanList) -> Result<LocalReply, H
 /// A new view of the items of a view.
 pub fn view_of_view(parts: &mut Parts, view: usize, _loans: &LoanList) -> Result<LocalReply, Halt>
     requires { IsWhole parts.old }
-    ensures answer { Answers (spec.answer_of (exporter_of parts.old) (subjects.View view) verbs.View _loans.now) (exporter_of parts.old) result (exporter_of parts.new) }
+    ensures answer { AnswersBy (subjects.View view) verbs.View _loans.now parts.old result parts.new }
     ensures counted { parts.new.exports ≡ exports_of (exporter_of parts.new) }
     ensures room { parts.new.bytes.room ≡ parts.old.bytes.room }
 {
@@ -75,7 +75,7 @@ pub fn view_of_view(parts: &mut Parts, view: usize, _loans: &LoanList) -> Result
 /// A view is released, as `with view` ends.
 pub fn exit_of_view(parts: &mut Parts, view: usize, _loans: &LoanList) -> Result<LocalReply, Halt>
     requires { IsWhole parts.old }
-    ensures answer { Answers (spec.answer_of (exporter_of parts.old) (subjects.View view) verbs.Exit _loans.now) (exporter_of parts.old) result (exporter_of parts.new) }
+    ensures answer { AnswersBy (subjects.View view) verbs.Exit _loans.now parts.old result parts.new }
     ensures counted { parts.new.exports ≡ exports_of (exporter_of parts.new) }
     ensures room { parts.new.bytes.room ≡ parts.old.bytes.room }
 {
@@ -85,7 +85,7 @@ pub fn exit_of_view(parts: &mut Parts, view: usize, _loans: &LoanList) -> Result
 /// The byte of an exporter at an index, or the bytes that a slice picks.
 pub fn get_of_own(parts: &mut Parts, key: &Value, loans: &LoanList) -> Result<LocalReply, Halt>
     requires { IsWhole parts.old }
-    ensures answer { Answers (spec.answer_of (exporter_of parts.old) subjects.Own (verbs.Get key.now) loans.now) (exporter_of parts.old) result (exporter_of parts.new) }
+    ensures answer { AnswersBy subjects.Own (verbs.Get key.now) loans.now parts.old result parts.new }
     ensures counted { parts.new.exports ≡ exports_of (exporter_of parts.new) }
     ensures room { parts.new.bytes.room ≡ parts.old.bytes.room }
 {
@@ -103,7 +103,7 @@ pub fn get_of_view(
     loans: &LoanList,
 ) -> Result<LocalReply, Halt>
     requires { IsWhole parts.old }
-    ensures answer { Answers (spec.answer_of (exporter_of parts.old) (subjects.View view) (verbs.Get key.now) loans.now) (exporter_of parts.old) result (exporter_of parts.new) }
+    ensures answer { AnswersBy (subjects.View view) (verbs.Get key.now) loans.now parts.old result parts.new }
     ensures counted { parts.new.exports ≡ exports_of (exporter_of parts.new) }
     ensures room { parts.new.bytes.room ≡ parts.old.bytes.room }
 {
@@ -123,7 +123,7 @@ pub fn set_through_view(
 ) -> Result<LocalReply, Halt>
     requires whole { IsWhole parts.old }
     requires fit { LoansFit loans.now }
-    ensures answer { Answers (spec.answer_of (exporter_of parts.old) (subjects.View view) (verbs.Set key.now value.now) loans.now) (exporter_of parts.old) result (exporter_of parts.new) }
+    ensures answer { AnswersBy (subjects.View view) (verbs.Set key.now value.now) loans.now parts.old result parts.new }
     ensures counted { parts.new.exports ≡ exports_of (exporter_of parts.new) }
     ensures room { parts.new.bytes.room ≡ parts.old.bytes.room }
 {
@@ -145,7 +145,7 @@ pub fn cast_of_view(
     loans: &LoanList,
 ) -> Result<LocalReply, Halt>
     requires { IsWhole parts.old }
-    ensures answer { Answers (spec.answer_of (exporter_of parts.old) (subjects.View view) (verbs.Cast format.now shape.now) loans.now) (exporter_of parts.old) result (exporter_of parts.new) }
+    ensures answer { AnswersBy (subjects.View view) (verbs.Cast format.now shape.now) loans.now parts.old result parts.new }
     ensures counted { parts.new.exports ≡ exports_of (exporter_of parts.new) }
     ensures room { parts.new.bytes.room ≡ parts.old.bytes.room }
 {
@@ -161,7 +161,7 @@ pub fn cast_of_view(
 /// Takes the byte at an index out.
 pub fn pop(parts: &mut Parts, index: &Option<Value>, loans: &LoanList) -> Result<LocalReply, Halt>
     requires { IsWhole parts.old }
-    ensures answer { Answers (spec.answer_of (exporter_of parts.old) subjects.Own (verbs.Pop index.now) loans.now) (exporter_of parts.old) result (exporter_of parts.new) }
+    ensures answer { AnswersBy subjects.Own (verbs.Pop index.now) loans.now parts.old result parts.new }
     ensures counted { parts.new.exports ≡ exports_of (exporter_of parts.new) }
     ensures err_room { OnErr result (parts.new.bytes.room ≡ parts.old.bytes.room) }
 {

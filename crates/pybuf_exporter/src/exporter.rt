@@ -43,6 +43,7 @@ impl Model for ExporterState {
 
 impl ExporterState {
     ghost use Rattle.std.specs.Borrow.{sem};
+    ghost use Rattle.pybuf_state.specs.Answers.{ChangesTo};
     ghost use Rattle.pybuf_state.specs.Exporter.{exports_of};
     ghost use Rattle.pybuf_command.specs.Kinds.{holds_readonly};
     ghost use Rattle.pybuf_exporter.specs.Lending.{LendsBytes, LendsAll, LendsRunOf};
@@ -65,10 +66,9 @@ impl ExporterState {
     ghost use Rattle.std.specs.Prelude.{Ok, Err};
     ghost use Rattle.pybuf_value.specs.Snaps.{content_of, content_of_named};
     ghost use Rattle.pybuf_value.specs.Lent.{Lends, kind_of_named};
-    ghost use Rattle.pybuf_exporter.specs.Step.{estep, estep_by};
+    ghost use Rattle.pybuf_exporter.specs.Stepping.{StateStepsBy, StepsByNames, CarriesOut, CarriesOutTwice, OwningChangesNothing};
     ghost use Rattle.pybuf_exporter.specs.Stored.{new_stored};
     ghost use Rattle.pybuf_exporter.specs.Counting.{edits_by};
-    ghost use Rattle.pybuf_exporter.specs.Owning.{reply_owns};
     ghost use Rattle.pybuf_state.specs.Names.{IsSoundOther, snap_of_other};
     ghost use Rattle.pybuf_memoryview.specs.Fits.{fits_snap};
     ghost use Rattle.pybuf_state.specs.Fits.{LoansFit};
@@ -118,7 +118,7 @@ impl ExporterState {
     /// Example: the subject `Subject::Own` and the verb `Verb::Len` of three bytes reply the item 3.
     pub fn step(&mut self, command: &LocalCommand) -> Made<LocalReply>
         requires { LoansFit command.now.loans }
-        ensures ok { IfOk result (λ r. estep self.old.exporter command.now.subject command.now.verb command.now.loans ≡ (self.new.exporter, r)) }
+        ensures ok { CarriesOut command.now self.old.exporter result self.new.exporter }
         ensures err { OnErr result (self.new ≡ self.old) }
         ensures kept { edits_by command.now.subject command.now.verb ≡ false → self.new.room ≡ self.old.room }
     {
@@ -136,7 +136,7 @@ impl ExporterState {
         names: &N,
     ) -> Made<LocalReply>
         requires { N.fit names.now }
-        ensures ok { IfOk result (λ r. estep_by self.old.exporter subject verb.now (N.named names.now) ≡ (self.new.exporter, r)) }
+        ensures ok { StepsByNames subject verb.now (N.named names.now) self.old.exporter result self.new.exporter }
         ensures err { OnErr result (self.new ≡ self.old) }
         ensures kept { edits_by subject verb.now ≡ false → self.new.room ≡ self.old.room }
         ensures was_sound { IsSoundExporter self.old.exporter }
@@ -153,7 +153,7 @@ impl ExporterState {
     /// Example: `Verb::Len` of three bytes gives the item 3 twice.
     pub fn step_copied(&mut self, command: &LocalCommand) -> Made<(LocalReply, LocalReply)>
         requires { LoansFit command.now.loans }
-        ensures ok { IfOk result (λ r. estep self.old.exporter command.now.subject command.now.verb command.now.loans ≡ (self.new.exporter, r.0)) }
+        ensures ok { CarriesOutTwice command.now self.old.exporter result self.new.exporter }
         ensures twice { IfOk result (λ r. r.1 ≡ r.0) }
         ensures err { OnErr result (self.new.exporter ≡ self.old.exporter) }
         ensures kept { edits_by command.now.subject command.now.verb ≡ false → self.new.room ≡ self.old.room }
@@ -171,8 +171,8 @@ impl ExporterState {
     /// The same of a command whose reply owns no memory, or which changes nothing.
     fn read_copied(&mut self, command: &LocalCommand) -> Made<(LocalReply, LocalReply)>
         requires fit { LoansFit command.now.loans }
-        requires same { reply_owns (estep self.old.exporter command.now.subject command.now.verb command.now.loans).1 ≡ true → (estep self.old.exporter command.now.subject command.now.verb command.now.loans).0 ≡ self.old.exporter }
-        ensures ok { IfOk result (λ r. estep self.old.exporter command.now.subject command.now.verb command.now.loans ≡ (self.new.exporter, r.0)) }
+        requires same { OwningChangesNothing command.now self.old.exporter }
+        ensures ok { CarriesOutTwice command.now self.old.exporter result self.new.exporter }
         ensures twice { IfOk result (λ r. r.1 ≡ r.0) }
         ensures err { OnErr result (self.new.exporter ≡ self.old.exporter) }
         ensures kept { edits_by command.now.subject command.now.verb ≡ false → self.new.room ≡ self.old.room }
@@ -186,7 +186,7 @@ impl ExporterState {
         requires fit { LoansFit command.now.loans }
         requires subject { command.now.subject ≡ subjects.Own }
         requires verb { command.now.verb ≡ verbs.Take }
-        ensures ok { IfOk result (λ r. estep self.old.exporter command.now.subject command.now.verb command.now.loans ≡ (self.new.exporter, r.0)) }
+        ensures ok { CarriesOutTwice command.now self.old.exporter result self.new.exporter }
         ensures twice { IfOk result (λ r. r.1 ≡ r.0) }
         ensures err { OnErr result (self.new.exporter ≡ self.old.exporter) }
         ensures kept { edits_by command.now.subject command.now.verb ≡ false → self.new.room ≡ self.old.room }
@@ -210,7 +210,7 @@ impl ExporterState {
         requires fit { LoansFit command.now.loans }
         requires subject { command.now.subject ≡ subjects.Iter iterator }
         requires verb { command.now.verb ≡ verbs.Next }
-        ensures ok { IfOk result (λ r. estep self.old.exporter command.now.subject command.now.verb command.now.loans ≡ (self.new.exporter, r.0)) }
+        ensures ok { CarriesOutTwice command.now self.old.exporter result self.new.exporter }
         ensures twice { IfOk result (λ r. r.1 ≡ r.0) }
         ensures err { OnErr result (self.new.exporter ≡ self.old.exporter) }
         ensures kept { edits_by command.now.subject command.now.verb ≡ false → self.new.room ≡ self.old.room }
@@ -236,7 +236,7 @@ impl ExporterState {
     /// refused. Where memory runs out, nothing is changed.
     /// Example: of a new exporter it replies `View(0)`.
     pub fn view_of_own(&mut self, loans: &LoanList) -> Made<LocalReply>
-        ensures ok { IfOk result (λ r. estep self.old.exporter subjects.Own verbs.View loans.now ≡ (self.new.exporter, r)) }
+        ensures ok { StateStepsBy subjects.Own verbs.View loans.now self.old result self.new }
         ensures err { OnErr result (self.new ≡ self.old) }
         ensures room { self.new.room ≡ self.old.room }
     {
@@ -250,7 +250,7 @@ impl ExporterState {
     /// is changed then, nor where memory runs out.
     /// Example: of the view 0, the only one, it replies `View(1)`.
     pub fn view_of_view(&mut self, view: usize, loans: &LoanList) -> Made<LocalReply>
-        ensures ok { IfOk result (λ r. estep self.old.exporter (subjects.View view) verbs.View loans.now ≡ (self.new.exporter, r)) }
+        ensures ok { StateStepsBy (subjects.View view) verbs.View loans.now self.old result self.new }
         ensures err { OnErr result (self.new ≡ self.old) }
         ensures room { self.new.room ≡ self.old.room }
     {
@@ -263,7 +263,7 @@ impl ExporterState {
     /// Refused with `UnknownName` where the view was never given. Nothing is changed then.
     /// Example: `state.exit_of_view(0, &loans)` replies `Ok`, and `state.is_live(0)` is false then.
     pub fn exit_of_view(&mut self, view: usize, loans: &LoanList) -> Made<LocalReply>
-        ensures ok { IfOk result (λ r. estep self.old.exporter (subjects.View view) verbs.Exit loans.now ≡ (self.new.exporter, r)) }
+        ensures ok { StateStepsBy (subjects.View view) verbs.Exit loans.now self.old result self.new }
         ensures err { OnErr result (self.new ≡ self.old) }
         ensures room { self.new.room ≡ self.old.room }
     {
@@ -279,7 +279,7 @@ impl ExporterState {
     /// range. Nothing is changed, whatever it replies.
     /// Example: of `b"abc"` the key `-1` gets the item 99, and the key `0:2` gets `b"ab"`.
     pub fn get_of_own(&mut self, key: &Value, loans: &LoanList) -> Made<LocalReply>
-        ensures ok { IfOk result (λ r. estep self.old.exporter subjects.Own (verbs.Get key.now) loans.now ≡ (self.new.exporter, r)) }
+        ensures ok { StateStepsBy subjects.Own (verbs.Get key.now) loans.now self.old result self.new }
         ensures err { OnErr result (self.new ≡ self.old) }
         ensures room { self.new.room ≡ self.old.room }
     {
@@ -294,7 +294,7 @@ impl ExporterState {
     /// Nothing is changed then, nor where memory runs out.
     /// Example: of a view of `b"abcdef"` the key 0 gets the item 97, and the key `::-2` the number of a view of `b"fdb"`.
     pub fn get_of_view(&mut self, view: usize, key: &Value, loans: &LoanList) -> Made<LocalReply>
-        ensures ok { IfOk result (λ r. estep self.old.exporter (subjects.View view) (verbs.Get key.now) loans.now ≡ (self.new.exporter, r)) }
+        ensures ok { StateStepsBy (subjects.View view) (verbs.Get key.now) loans.now self.old result self.new }
         ensures err { OnErr result (self.new ≡ self.old) }
         ensures room { self.new.room ≡ self.old.room }
     {
@@ -316,7 +316,7 @@ impl ExporterState {
         loans: &LoanList,
     ) -> Made<LocalReply>
         requires { LoansFit loans.now }
-        ensures ok { IfOk result (λ r. estep self.old.exporter (subjects.View view) (verbs.Set key.now value.now) loans.now ≡ (self.new.exporter, r)) }
+        ensures ok { StateStepsBy (subjects.View view) (verbs.Set key.now value.now) loans.now self.old result self.new }
         ensures err { OnErr result (self.new ≡ self.old) }
         ensures room { self.new.room ≡ self.old.room }
     {
@@ -337,7 +337,7 @@ impl ExporterState {
         shape: &Option<Value>,
         loans: &LoanList,
     ) -> Made<LocalReply>
-        ensures ok { IfOk result (λ r. estep self.old.exporter (subjects.View view) (verbs.Cast format.now shape.now) loans.now ≡ (self.new.exporter, r)) }
+        ensures ok { StateStepsBy (subjects.View view) (verbs.Cast format.now shape.now) loans.now self.old result self.new }
         ensures err { OnErr result (self.new ≡ self.old) }
         ensures room { self.new.room ≡ self.old.room }
     {
@@ -352,7 +352,7 @@ impl ExporterState {
     /// with `BufferError` where a view is unreleased. Nothing is changed then, nor where memory runs out.
     /// Example: to the bytearray `b"abc"` the value 100 makes `b"abcd"`.
     pub fn append(&mut self, value: &Value, loans: &LoanList) -> Made<LocalReply>
-        ensures ok { IfOk result (λ r. estep self.old.exporter subjects.Own (verbs.Append value.now) loans.now ≡ (self.new.exporter, r)) }
+        ensures ok { StateStepsBy subjects.Own (verbs.Append value.now) loans.now self.old result self.new }
         ensures err { OnErr result (self.new ≡ self.old) }
     {
         crate::laws::commands_keep_sound();
@@ -370,7 +370,7 @@ impl ExporterState {
     /// changed then, nor where memory runs out.
     /// Example: of the bytearray `b"abc"` without an index it replies the item 99, and leaves `b"ab"`.
     pub fn pop(&mut self, index: &Option<Value>, loans: &LoanList) -> Made<LocalReply>
-        ensures ok { IfOk result (λ r. estep self.old.exporter subjects.Own (verbs.Pop index.now) loans.now ≡ (self.new.exporter, r)) }
+        ensures ok { StateStepsBy subjects.Own (verbs.Pop index.now) loans.now self.old result self.new }
         ensures err { OnErr result (self.new ≡ self.old) }
     {
         crate::laws::commands_keep_sound();
@@ -444,7 +444,7 @@ impl ExporterState {
     /// Refused with `UnknownName` exactly where the view was never given. Nothing is changed then.
     /// Example: `state.release_view(0)` is `Ok(())` after one view was made, and `Err(Fault::UnknownName)` before.
     pub fn release_view(&mut self, view: usize) -> Result<(), Fault>
-        ensures exact { MatchResult result (λ _. released_in self.old.exporter view ≡ Ok self.new.exporter) (λ f. released_in self.old.exporter view ≡ Err f) }
+        ensures exact { ChangesTo (released_in self.old.exporter view) result self.new.exporter }
         ensures given { IsOk result ↔ (view < length self.old.exporter.views) }
         ensures refused { IfErr result (λ f. f ≡ faults.UnknownName) }
         ensures err { OnErr result (self.new ≡ self.old) }

@@ -1,14 +1,12 @@
 //! Which effect a command has.
-ghost use Rattle.std.specs.Prelude.{◌≡◌, ◌≤◌, ◌+◌, ℕ, true, false, length, OnOk, OnErr};
+ghost use Rattle.std.specs.Prelude.{◌≡◌, false};
 ghost use Rattle.pybuf_command.specs.declared.kinds.Subject.TheVariants as subjects;
-ghost use Rattle.pybuf_command.specs.Handles.{handles_of, handles_read};
+ghost use Rattle.pybuf_command.specs.Handles.{handles_of};
 ghost use Rattle.pybuf_state.specs.Exporter.{exports_of};
-ghost use Rattle.pybuf_state.specs.Loans.{lents_by};
-ghost use Rattle.pybuf_state.specs.Answers.{exporter_of, IsWhole, Answers};
-ghost use Rattle.pybuf_slice.specs.FrontContent.{IsSpare};
-ghost use Rattle.pybuf_verbs_edits.specs.Counting.{TakesFirst, taken_places, grows_at_end, can_leave_length};
+ghost use Rattle.pybuf_state.specs.Answers.{exporter_of, IsWhole, AnswersIn};
 ghost use Rattle.pybuf_verbs_edits.specs.Edits.{is_edit};
-ghost use Rattle.pybuf_exporter.specs.Counting.{taken_by, grows_by, leaves_by, edits_by};
+ghost use Rattle.pybuf_verbs_edits.specs.Paying.{VerbIsPaid};
+ghost use Rattle.pybuf_exporter.specs.Counting.{CommandIsPaid, edits_by};
 ghost use Rattle.pybuf_exporter.specs.Step as spec;
 
 use pybuf_command::{LocalReply, Subject, Verb, handles_of, handles_read};
@@ -61,7 +59,7 @@ fn effect_without_edits<N: Names>(
     requires given { handles.now ≡ handles_of verb.now }
     requires fit { N.fit names.now }
     requires no_edit { is_edit verb.now ≡ false }
-    ensures answer { Answers (spec.effect_on_own (exporter_of parts.old) verb.now (lents_by (exporter_of parts.old) (N.named names.now) (handles_read subjects.Own verb.now))) (exporter_of parts.old) result (exporter_of parts.new) }
+    ensures answer { AnswersIn parts.old (λ e. spec.effect_by e subjects.Own verb.now (N.named names.now)) result parts.new }
     ensures counted { parts.new.exports ≡ exports_of (exporter_of parts.new) }
     ensures room { parts.new.bytes.room ≡ parts.old.bytes.room }
 {
@@ -103,19 +101,11 @@ fn effect_on_own<N: Names, L: Ledger>(
     requires whole { IsWhole parts.old }
     requires given { handles.now ≡ handles_of verb.now }
     requires fit { N.fit names.now }
-    ensures answer { Answers (spec.effect_on_own (exporter_of parts.old) verb.now (lents_by (exporter_of parts.old) (N.named names.now) (handles_read subjects.Own verb.now))) (exporter_of parts.old) result (exporter_of parts.new) }
+    ensures answer { AnswersIn parts.old (λ e. spec.effect_by e subjects.Own verb.now (N.named names.now)) result parts.new }
     ensures counted { parts.new.exports ≡ exports_of (exporter_of parts.new) }
-    ensures few { OnOk result (moved.new ≤ moved.old + (length parts.old.bytes.items + length parts.new.bytes.items)) }
-    ensures front_room { (n : ℕ) → TakesFirst (taken_places (exporter_of parts.old) verb.now) n → OnOk result (parts.new.bytes.room ≡ parts.old.bytes.room + n) }
-    ensures front_counter { (n : ℕ) → TakesFirst (taken_places (exporter_of parts.old) verb.now) n → OnOk result (moved.new ≡ moved.old) }
-    ensures end_counter { grows_at_end verb.now (lents_by (exporter_of parts.old) (N.named names.now) (handles_read subjects.Own verb.now)) ≡ true → OnOk result (moved.new + parts.new.bytes.room ≤ moved.old + parts.old.bytes.room) }
-    ensures end_spare { grows_at_end verb.now (lents_by (exporter_of parts.old) (N.named names.now) (handles_read subjects.Own verb.now)) ≡ true → OnOk result (IsSpare parts.new.bytes) }
-    ensures still_room { can_leave_length verb.now (lents_by (exporter_of parts.old) (N.named names.now) (handles_read subjects.Own verb.now)) ≡ true → OnOk result (length parts.new.bytes.items ≡ length parts.old.bytes.items → parts.new.bytes.room ≡ parts.old.bytes.room) }
-    ensures still_counter { can_leave_length verb.now (lents_by (exporter_of parts.old) (N.named names.now) (handles_read subjects.Own verb.now)) ≡ true → OnOk result (length parts.new.bytes.items ≡ length parts.old.bytes.items → moved.new ≡ moved.old) }
+    ensures paid { VerbIsPaid verb.now (N.named names.now) parts.old moved.old result parts.new moved.new }
     ensures kept_room { is_edit verb.now ≡ false → parts.new.bytes.room ≡ parts.old.bytes.room }
     ensures kept_counter { is_edit verb.now ≡ false → moved.new ≡ moved.old }
-    ensures err_room { OnErr result (parts.new.bytes.room ≡ parts.old.bytes.room) }
-    ensures err_counter { OnErr result (moved.new ≡ moved.old) }
 {
     if is_edit(verb) {
         edit_of_own(parts, verb, names, moved)
@@ -133,7 +123,7 @@ fn effect_on_view<N: Names>(
 ) -> Result<LocalReply, Halt>
     requires whole { IsWhole parts.old }
     requires fit { N.fit names.now }
-    ensures answer { Answers (spec.effect_on_view (exporter_of parts.old) k verb.now (lents_by (exporter_of parts.old) (N.named names.now) (handles_read (subjects.View k) verb.now))) (exporter_of parts.old) result (exporter_of parts.new) }
+    ensures answer { AnswersIn parts.old (λ e. spec.effect_by e (subjects.View k) verb.now (N.named names.now)) result parts.new }
     ensures counted { parts.new.exports ≡ exports_of (exporter_of parts.new) }
     ensures room { parts.new.bytes.room ≡ parts.old.bytes.room }
 {
@@ -189,19 +179,11 @@ pub fn answer<N: Names, L: Ledger>(
 ) -> Result<LocalReply, Halt>
     requires whole { IsWhole parts.old }
     requires fit { N.fit names.now }
-    ensures answer { Answers (spec.answer_by (exporter_of parts.old) subject verb.now (N.named names.now)) (exporter_of parts.old) result (exporter_of parts.new) }
+    ensures answer { AnswersIn parts.old (λ e. spec.answer_by e subject verb.now (N.named names.now)) result parts.new }
     ensures counted { parts.new.exports ≡ exports_of (exporter_of parts.new) }
-    ensures few { OnOk result (moved.new ≤ moved.old + (length parts.old.bytes.items + length parts.new.bytes.items)) }
-    ensures front_room { (n : ℕ) → TakesFirst (taken_by (exporter_of parts.old) subject verb.now) n → OnOk result (parts.new.bytes.room ≡ parts.old.bytes.room + n) }
-    ensures front_counter { (n : ℕ) → TakesFirst (taken_by (exporter_of parts.old) subject verb.now) n → OnOk result (moved.new ≡ moved.old) }
-    ensures end_counter { grows_by subject verb.now (lents_by (exporter_of parts.old) (N.named names.now) (handles_read subject verb.now)) ≡ true → OnOk result (moved.new + parts.new.bytes.room ≤ moved.old + parts.old.bytes.room) }
-    ensures end_spare { grows_by subject verb.now (lents_by (exporter_of parts.old) (N.named names.now) (handles_read subject verb.now)) ≡ true → OnOk result (IsSpare parts.new.bytes) }
-    ensures still_room { leaves_by subject verb.now (lents_by (exporter_of parts.old) (N.named names.now) (handles_read subject verb.now)) ≡ true → OnOk result (length parts.new.bytes.items ≡ length parts.old.bytes.items → parts.new.bytes.room ≡ parts.old.bytes.room) }
-    ensures still_counter { leaves_by subject verb.now (lents_by (exporter_of parts.old) (N.named names.now) (handles_read subject verb.now)) ≡ true → OnOk result (length parts.new.bytes.items ≡ length parts.old.bytes.items → moved.new ≡ moved.old) }
+    ensures paid { CommandIsPaid subject verb.now (N.named names.now) parts.old moved.old result parts.new moved.new }
     ensures kept_room { edits_by subject verb.now ≡ false → parts.new.bytes.room ≡ parts.old.bytes.room }
     ensures kept_counter { edits_by subject verb.now ≡ false → moved.new ≡ moved.old }
-    ensures err_room { OnErr result (parts.new.bytes.room ≡ parts.old.bytes.room) }
-    ensures err_counter { OnErr result (moved.new ≡ moved.old) }
 {
     let handles = handles_of(parts.alloc, verb)?;
     if !are_known(parts, names, handles.as_slice()) {

@@ -1,23 +1,16 @@
 //! Calls on views by plain arguments: each but `put_number` goes to its effect with numbers and slices, and makes no value,
 //! no loan and no reply. `put_number` is the command `set` with two values and no loans.
-ghost use Rattle.std.specs.Prelude.{◌≡◌, [], map, pos, None, Some, IfOk, OnErr};
-ghost use Rattle.std.specs.Result.{result_map_both};
-ghost use Rattle.pybuf_value.specs.declared.values.Scalar.TheVariants as scalars;
-ghost use Rattle.pybuf_value.specs.declared.values.Value.TheVariants as values;
-ghost use Rattle.pybuf_command.specs.declared.kinds.Subject.TheVariants as subjects;
-ghost use Rattle.pybuf_command.specs.declared.commands.LocalReply.TheVariants as replies;
+ghost use Rattle.std.specs.Prelude.{◌≡◌, None};
 ghost use Rattle.pybuf_command.specs.declared.commands.PropertyName.TheVariants as names;
-ghost use Rattle.pybuf_state.specs.Answers.{Answers, Reads};
-ghost use Rattle.pybuf_state.specs.Snaps.{snap_of_subject};
+ghost use Rattle.pybuf_state.specs.Answers.{as_view, as_done, as_item, as_bytes, as_counts, as_numbers};
 ghost use Rattle.pybuf_verbs_views.specs.View.{view_of_own};
 ghost use Rattle.pybuf_verbs_views.specs.Slice.{slice_of_view};
-ghost use Rattle.pybuf_verbs_views.specs.Cast.{cast_of_view};
-ghost use Rattle.pybuf_verbs_reads.specs.Get.{item_of_view};
+ghost use Rattle.pybuf_verbs_views.specs.Cast.{flat_cast_of_view, shaped_cast_of_view};
+ghost use Rattle.pybuf_verbs_reads.specs.Get.{item_at_index};
 ghost use Rattle.pybuf_verbs_reads.specs.ToBytes.{bytes_of_view};
 ghost use Rattle.pybuf_verbs_reads.specs.Property.{property_of_view};
-ghost use Rattle.pybuf_verbs_writes.specs.Assign.{assign_of_view, assign_of_lent};
-ghost use Rattle.pybuf_command.specs.declared.commands.Verb.TheVariants as verbs;
-ghost use Rattle.pybuf_exporter.specs.Step.{estep};
+ghost use Rattle.pybuf_verbs_writes.specs.Assign.{bytes_assigned, assigned_across};
+ghost use Rattle.pybuf_exporter.specs.Stepping.{StateAnswers, StateReads, number_put};
 ghost use Rattle.pybuf_exporter.specs.Telling.{TellsRefusal};
 
 use crate::exporter::ExporterState;
@@ -32,7 +25,7 @@ impl ExporterState {
     /// is changed.
     /// Example: of a new exporter it is 0.
     pub fn add_whole(&mut self) -> Result<usize, Halt>
-        ensures answer { Answers (view_of_own self.old.exporter) self.old.exporter (result_map_both replies.View (λ halt. halt) result) self.new.exporter }
+        ensures answer { StateAnswers self.old view_of_own (as_view result) self.new }
         ensures room { self.new.room ≡ self.old.room }
     {
         pybuf_verbs_views::view_is_safe();
@@ -44,7 +37,7 @@ impl ExporterState {
     /// where memory runs out.
     /// Example: of the view 0 of all bytes of `b"abcdef"` the slice `1:4` gives the number of a view of `b"bcd"`.
     pub fn add_slice(&mut self, view: usize, slice: &PySlice) -> Result<usize, Halt>
-        ensures answer { Answers (slice_of_view self.old.exporter view slice.now) self.old.exporter (result_map_both replies.View (λ halt. halt) result) self.new.exporter }
+        ensures answer { StateAnswers self.old (λ e. slice_of_view e view slice.now) (as_view result) self.new }
         ensures room { self.new.room ≡ self.old.room }
     {
         pybuf_verbs_views::slice_is_safe();
@@ -56,7 +49,7 @@ impl ExporterState {
     /// where memory runs out.
     /// Example: of a view of `b"\x01\x00\x02\x00"` the format `"H"` gives the number of a view with the items 1 and 2.
     pub fn add_cast(&mut self, view: usize, format: &str) -> Result<usize, Halt>
-        ensures answer { Answers (cast_of_view self.old.exporter view (values.One (scalars.Text format.now)) None) self.old.exporter (result_map_both replies.View (λ halt. halt) result) self.new.exporter }
+        ensures answer { StateAnswers self.old (λ e. flat_cast_of_view e view format.now) (as_view result) self.new }
         ensures room { self.new.room ≡ self.old.room }
     {
         pybuf_verbs_views::cast_is_safe();
@@ -72,7 +65,7 @@ impl ExporterState {
         format: &str,
         shape: &[usize],
     ) -> Result<usize, Halt>
-        ensures answer { Answers (cast_of_view self.old.exporter view (values.One (scalars.Text format.now)) (Some (values.Tuple (map (λ n. scalars.Int (pos n)) shape.now)))) self.old.exporter (result_map_both replies.View (λ halt. halt) result) self.new.exporter }
+        ensures answer { StateAnswers self.old (λ e. shaped_cast_of_view e view format.now shape.now) (as_view result) self.new }
         ensures room { self.new.room ≡ self.old.room }
     {
         pybuf_verbs_views::cast_is_safe();
@@ -83,7 +76,7 @@ impl ExporterState {
     /// `PyMemoryView::index` is, and with `UnknownName` for a view that was never given.
     /// Example: of a view of `b"abc"` the index -1 gives `Item::One(Scalar::Int(99))`.
     pub fn item(&self, view: usize, index: isize) -> Result<Item, Halt>
-        ensures { Reads (item_of_view self.now.exporter view (values.One (scalars.Int index))) self.now.exporter (result_map_both replies.Item (λ halt. halt) result) }
+        ensures { StateReads self.now (λ e. item_at_index e view index) (as_item result) }
     {
         get::item(&self.parts, view, index)
     }
@@ -93,7 +86,7 @@ impl ExporterState {
     /// then, nor where memory runs out.
     /// Example: through a view of all bytes of `bytearray(b"abc")` the index 0 and the number 65 make `b"Abc"`.
     pub fn put_number(&mut self, view: usize, index: isize, number: i128) -> Result<(), Halt>
-        ensures answer { TellsRefusal (estep self.old.exporter (subjects.View view) (verbs.Set (values.One (scalars.Int index)) (values.One (scalars.Int number))) []) self.old.exporter result self.new.exporter }
+        ensures answer { TellsRefusal (number_put self.old.exporter view index number) self.old.exporter result self.new.exporter }
         ensures room { self.new.room ≡ self.old.room }
     {
         let loans = LoanList::new(self.parts.alloc);
@@ -109,7 +102,7 @@ impl ExporterState {
     /// was never given, and with `ValueError` for a released one.
     /// Example: of the view `memoryview(b"abcdef")[::-2]` it has the bytes `b"fdb"`.
     pub fn content(&self, view: usize) -> Result<Vec<u8>, Halt>
-        ensures { Reads (bytes_of_view self.now.exporter view None) self.now.exporter (result_map_both (λ bytes. replies.Bytes bytes.items) (λ halt. halt) result) }
+        ensures { StateReads self.now (λ e. bytes_of_view e view None) (as_bytes result) }
     {
         to_bytes::content(&self.parts, view)
     }
@@ -118,7 +111,7 @@ impl ExporterState {
     /// and with `ValueError` for a released one.
     /// Example: of a view of three bytes it has the entry 3 alone.
     pub fn shape(&self, view: usize) -> Result<Vec<usize>, Halt>
-        ensures { Reads (property_of_view self.now.exporter view names.Shape) self.now.exporter (result_map_both (λ shape. replies.Numbers (map (λ n. pos n) shape.items)) (λ halt. halt) result) }
+        ensures { StateReads self.now (λ e. property_of_view e view names.Shape) (as_counts result) }
     {
         property::shape(&self.parts, view)
     }
@@ -127,7 +120,7 @@ impl ExporterState {
     /// and with `ValueError` for a released one.
     /// Example: of the view `memoryview(b"abcdef")[::-2]` it has the stride -2 alone.
     pub fn strides(&self, view: usize) -> Result<Vec<isize>, Halt>
-        ensures { Reads (property_of_view self.now.exporter view names.Strides) self.now.exporter (result_map_both (λ strides. replies.Numbers strides.items) (λ halt. halt) result) }
+        ensures { StateReads self.now (λ e. property_of_view e view names.Strides) (as_numbers result) }
     {
         property::strides(&self.parts, view)
     }
@@ -136,7 +129,7 @@ impl ExporterState {
     /// `UnknownName` for a view that was never given. Nothing is changed then, nor where memory runs out.
     /// Example: over the slice `0:2` of a view of all bytes of `b"abc"` the bytes `b"12"` make `b"12c"`.
     pub fn assign_bytes(&mut self, view: usize, slice: &PySlice, bytes: &[u8]) -> Result<(), Halt>
-        ensures answer { Answers (assign_of_view self.old.exporter view slice.now (values.One (scalars.Bytes bytes.now)) []) self.old.exporter (result_map_both (λ _. replies.Ok) (λ halt. halt) result) self.new.exporter }
+        ensures answer { StateAnswers self.old (λ e. bytes_assigned e view slice.now bytes.now) (as_done result) self.new }
         ensures room { self.new.room ≡ self.old.room }
     {
         pybuf_verbs_writes::assign_is_safe();
@@ -154,7 +147,7 @@ impl ExporterState {
         lender: &ExporterState,
         source: usize,
     ) -> Result<(), Halt>
-        ensures answer { Answers (assign_of_lent self.old.exporter view slice.now (snap_of_subject lender.now.exporter (subjects.View source))) self.old.exporter (result_map_both (λ _. replies.Ok) (λ halt. halt) result) self.new.exporter }
+        ensures answer { StateAnswers self.old (λ e. assigned_across e view slice.now lender.now.exporter source) (as_done result) self.new }
         ensures room { self.new.room ≡ self.old.room }
     {
         pybuf_verbs_writes::assign_is_safe();
@@ -166,7 +159,7 @@ impl ExporterState {
     /// runs out.
     /// Example: over the slice `::-1` of a view of `b"abc"` the view itself makes `b"cba"`.
     pub fn assign_within(&mut self, view: usize, slice: &PySlice, source: usize) -> Result<(), Halt>
-        ensures answer { Answers (assign_of_lent self.old.exporter view slice.now (snap_of_subject self.old.exporter (subjects.View source))) self.old.exporter (result_map_both (λ _. replies.Ok) (λ halt. halt) result) self.new.exporter }
+        ensures answer { StateAnswers self.old (λ e. assigned_across e view slice.now e source) (as_done result) self.new }
         ensures room { self.new.room ≡ self.old.room }
     {
         pybuf_verbs_writes::assign_is_safe();

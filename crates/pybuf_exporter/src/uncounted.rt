@@ -1,9 +1,10 @@
 //! Commands of which nobody reads how many bytes they move: each has a counter of its own.
-ghost use Rattle.std.specs.Prelude.{◌≡◌, false, IfOk, OnErr};
+ghost use Rattle.std.specs.Prelude.{◌≡◌, false, OnErr};
 ghost use Rattle.pybuf_state.specs.Exporter.{exports_of};
-ghost use Rattle.pybuf_state.specs.Answers.{exporter_of, IsWhole, Answers};
+ghost use Rattle.pybuf_state.specs.Answers.{exporter_of, IsWhole, AnswersIn};
 ghost use Rattle.pybuf_state.specs.Fits.{LoansFit};
 ghost use Rattle.pybuf_exporter.specs.Step as spec;
+ghost use Rattle.pybuf_exporter.specs.Stepping.{CarriesOut};
 ghost use Rattle.pybuf_exporter.specs.Counting.{edits_by};
 ghost use Rattle.pybuf_exporter.specs.Stored.{stored_of};
 ghost use Rattle.pybuf_verbs_edits.specs.Growing as growing;
@@ -24,7 +25,7 @@ fn step_by<L: Ledger>(parts: &mut Parts, command: &LocalCommand, blank: Blank) -
     requires name { blank.name ≡ L.name }
     requires parts { blank.parts ≡ L.parts }
     requires one { blank.parts ≡ 1 }
-    ensures ok { IfOk result (λ r. spec.estep (exporter_of parts.old) command.now.subject command.now.verb command.now.loans ≡ (exporter_of parts.new, r)) }
+    ensures ok { CarriesOut command.now (exporter_of parts.old) result (exporter_of parts.new) }
     ensures err { OnErr result (stored_of parts.new ≡ stored_of parts.old) }
     ensures kept { edits_by command.now.subject command.now.verb ≡ false → parts.new.bytes.room ≡ parts.old.bytes.room }
     ensures whole { IsWhole parts.new }
@@ -37,7 +38,7 @@ fn step_by<L: Ledger>(parts: &mut Parts, command: &LocalCommand, blank: Blank) -
 pub fn step(parts: &mut Parts, command: &LocalCommand) -> Made<LocalReply>
     requires whole { IsWhole parts.old }
     requires fit { LoansFit command.now.loans }
-    ensures ok { IfOk result (λ r. spec.estep (exporter_of parts.old) command.now.subject command.now.verb command.now.loans ≡ (exporter_of parts.new, r)) }
+    ensures ok { CarriesOut command.now (exporter_of parts.old) result (exporter_of parts.new) }
     ensures err { OnErr result (stored_of parts.new ≡ stored_of parts.old) }
     ensures kept { edits_by command.now.subject command.now.verb ≡ false → parts.new.bytes.room ≡ parts.old.bytes.room }
     ensures whole { IsWhole parts.new }
@@ -57,7 +58,7 @@ fn answer_by<N: Names, L: Ledger>(
     requires name { blank.name ≡ L.name }
     requires parts { blank.parts ≡ L.parts }
     requires one { blank.parts ≡ 1 }
-    ensures answer { Answers (spec.answer_by (exporter_of parts.old) subject verb.now (N.named names.now)) (exporter_of parts.old) result (exporter_of parts.new) }
+    ensures answer { AnswersIn parts.old (λ e. spec.answer_by e subject verb.now (N.named names.now)) result parts.new }
     ensures counted { parts.new.exports ≡ exports_of (exporter_of parts.new) }
     ensures kept { edits_by subject verb.now ≡ false → parts.new.bytes.room ≡ parts.old.bytes.room }
     ensures err_room { OnErr result (parts.new.bytes.room ≡ parts.old.bytes.room) }
@@ -75,7 +76,7 @@ pub fn answer<N: Names>(
 ) -> Result<LocalReply, Halt>
     requires whole { IsWhole parts.old }
     requires fit { N.fit names.now }
-    ensures answer { Answers (spec.answer_by (exporter_of parts.old) subject verb.now (N.named names.now)) (exporter_of parts.old) result (exporter_of parts.new) }
+    ensures answer { AnswersIn parts.old (λ e. spec.answer_by e subject verb.now (N.named names.now)) result parts.new }
     ensures counted { parts.new.exports ≡ exports_of (exporter_of parts.new) }
     ensures kept { edits_by subject verb.now ≡ false → parts.new.bytes.room ≡ parts.old.bytes.room }
     ensures err_room { OnErr result (parts.new.bytes.room ≡ parts.old.bytes.room) }
@@ -88,7 +89,7 @@ fn append_by<L: Ledger>(parts: &mut Parts, value: &Value, blank: Blank) -> Resul
     requires name { blank.name ≡ L.name }
     requires parts { blank.parts ≡ L.parts }
     requires one { blank.parts ≡ 1 }
-    ensures answer { Answers (growing.append_of_own (exporter_of parts.old) value.now) (exporter_of parts.old) result (exporter_of parts.new) }
+    ensures answer { AnswersIn parts.old (λ e. growing.append_of_own e value.now) result parts.new }
     ensures counted { parts.new.exports ≡ exports_of (exporter_of parts.new) }
     ensures err_room { OnErr result (parts.new.bytes.room ≡ parts.old.bytes.room) }
 {
@@ -99,7 +100,7 @@ fn append_by<L: Ledger>(parts: &mut Parts, value: &Value, blank: Blank) -> Resul
 /// Adds a byte at the end of a bytearray.
 pub fn append(parts: &mut Parts, value: &Value) -> Result<LocalReply, Halt>
     requires { IsWhole parts.old }
-    ensures answer { Answers (growing.append_of_own (exporter_of parts.old) value.now) (exporter_of parts.old) result (exporter_of parts.new) }
+    ensures answer { AnswersIn parts.old (λ e. growing.append_of_own e value.now) result parts.new }
     ensures counted { parts.new.exports ≡ exports_of (exporter_of parts.new) }
     ensures err_room { OnErr result (parts.new.bytes.room ≡ parts.old.bytes.room) }
 {
@@ -115,7 +116,7 @@ fn pop_by<L: Ledger>(
     requires name { blank.name ≡ L.name }
     requires parts { blank.parts ≡ L.parts }
     requires one { blank.parts ≡ 1 }
-    ensures answer { Answers (shrinking.pop_of_own (exporter_of parts.old) index.now) (exporter_of parts.old) result (exporter_of parts.new) }
+    ensures answer { AnswersIn parts.old (λ e. shrinking.pop_of_own e index.now) result parts.new }
     ensures counted { parts.new.exports ≡ exports_of (exporter_of parts.new) }
     ensures err_room { OnErr result (parts.new.bytes.room ≡ parts.old.bytes.room) }
 {
@@ -126,7 +127,7 @@ fn pop_by<L: Ledger>(
 /// Takes the byte of a bytearray at an index out.
 pub fn pop(parts: &mut Parts, index: &Option<Value>) -> Result<LocalReply, Halt>
     requires { IsWhole parts.old }
-    ensures answer { Answers (shrinking.pop_of_own (exporter_of parts.old) index.now) (exporter_of parts.old) result (exporter_of parts.new) }
+    ensures answer { AnswersIn parts.old (λ e. shrinking.pop_of_own e index.now) result parts.new }
     ensures counted { parts.new.exports ≡ exports_of (exporter_of parts.new) }
     ensures err_room { OnErr result (parts.new.bytes.room ≡ parts.old.bytes.room) }
 {

@@ -2,11 +2,13 @@
 use Rattle.std.specs.Prelude.{ℕ, Bool, true, false, List, [], ◌∷◌, length, map, Option, Some, None, nat_lt}
 use Rattle.std.specs.List.{flat_map, list_all}
 use Rattle.pybuf_value.specs.declared.snaps.Snap.{Snap}
+use Rattle.pybuf_value.specs.declared.values.Value.{Value}
 use Rattle.pybuf_command.specs.declared.kinds.Subject.{Subject}
 use Rattle.pybuf_command.specs.declared.kinds.Subject.TheVariants as subject
 use Rattle.pybuf_command.specs.declared.loans.Loan.{Loan}
 use Rattle.pybuf_command.specs.declared.loans.Loan.TheVariants as loan
 use Rattle.pybuf_command.specs.Loans.{loan_of}
+use Rattle.pybuf_command.specs.Handles.{handle_of_value}
 use Rattle.pybuf_state.specs.Exporter.{Exporter}
 use Rattle.pybuf_state.specs.Snaps.{snap_of_subject}
 use Rattle.pybuf_value.specs.declared.values.Scalar.{Scalar}
@@ -79,7 +81,11 @@ snap_in e _ = None
 abbrev pub lents_by : Exporter → (ℕ → Option Loan) → List ℕ → List Lent
 lents_by e named handles = flat_map (λ h. lent_as h (subject_in (named h)) (snap_in e (named h))) handles
 
--- the same, by the loans
+-- what is lent for the handle that a value is, if it is one
+abbrev pub lents_of_value : Exporter → (ℕ → Option Loan) → Value → List Lent
+lents_of_value e named v = lents_by e named (handle_of_value v)
+
+-- what is lent for such handles by loans
 abbrev pub lent_for_each : Exporter → List (ℕ × Loan) → List ℕ → List Lent
 lent_for_each e loans handles = lents_by e (names_of loans) handles
 

@@ -38,7 +38,7 @@ impl Parts {
     ghost use Rattle.pybuf_slice.specs.FrontContent.{IsSpare};
     ghost use Rattle.pybuf_state.specs.Keeps as keeps;
     ghost use Rattle.pybuf_state.specs.Exporter.{view_at, live_layout, with_view, released_in, exports_of, resized, iterator_at, with_iterator, iterator_put};
-    ghost use Rattle.pybuf_state.specs.Answers.{exporter_of, IsWhole, Answers, Effects};
+    ghost use Rattle.pybuf_state.specs.Answers.{exporter_of, IsWhole, Answers, AnswersIn};
     ghost use Rattle.pybuf_state.specs.Laws.{IsSoundLayout};
     ghost use Rattle.pybuf_state.specs.Resizing.{has_exports, resizable};
 
@@ -107,7 +107,7 @@ impl Parts {
     /// Example: the first view of an exporter is replied as `LocalReply::View(0)`.
     pub fn add_view(&mut self, layout: KeptLayout) -> Result<LocalReply, Halt>
         requires { IsWhole self.old }
-        ensures answer { Effects self.old (λ e. Ok (with_view e layout)) result self.new }
+        ensures answer { AnswersIn self.old (λ e. Ok (with_view e layout)) result self.new }
         ensures counted { self.new.exports ≡ exports_of (exporter_of self.new) }
         ensures bytes { self.new.bytes ≡ self.old.bytes }
     {
@@ -134,7 +134,7 @@ impl Parts {
     /// Example: the first iterator of an exporter is replied as `LocalReply::Iter(0)`.
     pub fn add_iterator(&mut self, subject: Subject) -> Result<LocalReply, Halt>
         requires { IsWhole self.old }
-        ensures answer { Effects self.old (λ e. Ok (with_iterator e subject)) result self.new }
+        ensures answer { AnswersIn self.old (λ e. Ok (with_iterator e subject)) result self.new }
         ensures counted { self.new.exports ≡ exports_of (exporter_of self.new) }
         ensures bytes { self.new.bytes ≡ self.old.bytes }
     {

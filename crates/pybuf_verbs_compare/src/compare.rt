@@ -8,13 +8,12 @@ ghost use Rattle.pybuf_value.specs.Refusing.{unless};
 ghost use Rattle.pybuf_desc.specs.Layouts.{LiesInside};
 ghost use Rattle.pybuf_command.specs.declared.kinds.ExporterKind.{ExporterKind};
 ghost use Rattle.pybuf_command.specs.declared.kinds.ExporterKind.TheVariants as kinds;
-ghost use Rattle.pybuf_command.specs.Handles.{handle_of_value};
 ghost use Rattle.pybuf_memoryview.specs.Fits.{fits_snap};
 ghost use Rattle.pybuf_state.specs.Exporter.{new_exporter, view_at};
-ghost use Rattle.pybuf_state.specs.Loans.{lent_as, lents_by, snap_in, subject_in};
+ghost use Rattle.pybuf_state.specs.Loans.{lent_as, snap_in, subject_in, lents_of_value};
 ghost use Rattle.pybuf_state.specs.Names as names_spec;
 ghost use Rattle.pybuf_state.specs.Snaps.{snap_of_exporter, snap_of_subject, snap_of_view};
-ghost use Rattle.pybuf_state.specs.Answers.{exporter_of, IsWhole, Reads};
+ghost use Rattle.pybuf_state.specs.Answers.{exporter_of, IsWhole, ReadsIn, ChangesTo};
 ghost use Rattle.pybuf_verbs_compare.specs.Compare as spec;
 
 use pybuf_command::{ExporterKind, LocalReply, Subject};
@@ -62,7 +61,7 @@ fn bytes_compared(bytes: &[u8], op: CompareOp, other: Result<&[u8], Fault>) -> L
 
 /// A string of bytes beside bytes.
 fn string_and_bytes(parts: &Parts, op: CompareOp, bytes: &[u8]) -> Result<LocalReply, Halt>
-    ensures { Reads (spec.compare_string (exporter_of parts.now) op (Some (snap_of_exporter (new_exporter kinds.Bytes bytes.now)))) (exporter_of parts.now) result }
+    ensures { ReadsIn parts.now (λ e. spec.compare_string e op (Some (snap_of_exporter (new_exporter kinds.Bytes bytes.now)))) result }
 {
     Ok(bytes_compared(parts.bytes.as_slice(), op, Ok(bytes)))
 }
@@ -76,7 +75,7 @@ fn string_and_named<N: Names>(
 ) -> Result<LocalReply, Halt>
     requires whole { IsWhole parts.now }
     requires fit { N.fit names.now }
-    ensures { Reads (spec.compare_string (exporter_of parts.now) op (snap_in (exporter_of parts.now) (N.named names.now handle))) (exporter_of parts.now) result }
+    ensures { ReadsIn parts.now (λ e. spec.compare_string e op (snap_in e (N.named names.now handle))) result }
 {
     if has_no_order_with(parts, op, names.meaning(handle)) {
         return Err(Halt::Refused(Fault::Kind));
@@ -94,7 +93,7 @@ fn string_and_value<N: Names>(
 ) -> Result<LocalReply, Halt>
     requires whole { IsWhole parts.now }
     requires fit { N.fit names.now }
-    ensures { Reads (spec.compare_string (exporter_of parts.now) op (spec.other_in other.now (lents_by (exporter_of parts.now) (N.named names.now) (handle_of_value other.now)))) (exporter_of parts.now) result }
+    ensures { ReadsIn parts.now (λ e. spec.compare_string e op (spec.other_in other.now (lents_of_value e (N.named names.now) other.now))) result }
 {
     match other {
         Value::One(Scalar::Bytes(bytes)) => string_and_bytes(parts, op, bytes.as_slice()),
@@ -117,7 +116,7 @@ pub fn of_own<N: Names>(
 ) -> Result<LocalReply, Halt>
     requires whole { IsWhole parts.now }
     requires fit { N.fit names.now }
-    ensures { Reads (spec.compare_of_own (exporter_of parts.now) op other.now (lents_by (exporter_of parts.now) (N.named names.now) (handle_of_value other.now))) (exporter_of parts.now) result }
+    ensures { ReadsIn parts.now (λ e. spec.compare_of_own e op other.now (lents_of_value e (N.named names.now) other.now)) result }
 {
     parts.check_string()?;
     string_and_value(parts, op, other, names)
@@ -127,7 +126,7 @@ pub fn of_own<N: Names>(
 
 /// Refuses an order, which views haven't.
 fn check_equality(op: CompareOp) -> Result<(), Fault>
-    ensures { MatchResult result (λ _. unless (order.is_order op) faults.Kind ≡ Ok true) (λ f. unless (order.is_order op) faults.Kind ≡ Err f) }
+    ensures { ChangesTo (unless (order.is_order op) faults.Kind) result true }
 {
     if is_order(op) {
         return Err(Fault::Kind);
@@ -249,7 +248,7 @@ fn equals_value<N: Names>(
     requires inside { view.now.released ≡ false → LiesInside (length parts.now.bytes.items) view.now.layout }
     requires given { view_at (exporter_of parts.now) number ≡ Ok view.now }
     requires fit { N.fit names.now }
-    ensures { IfOk result (λ equal. equal ≡ spec.equals_other number (snap_of_view parts.now.bytes.items view.now) other.now (lents_by (exporter_of parts.now) (N.named names.now) (handle_of_value other.now))) }
+    ensures { IfOk result (λ equal. equal ≡ spec.equals_other number (snap_of_view parts.now.bytes.items view.now) other.now (lents_of_value (exporter_of parts.now) (N.named names.now) other.now)) }
 {
     match other {
         Value::One(Scalar::Bytes(bytes)) => {
@@ -287,7 +286,7 @@ pub fn of_view<N: Names>(
 ) -> Result<LocalReply, Halt>
     requires whole { IsWhole parts.now }
     requires fit { N.fit names.now }
-    ensures { Reads (spec.compare_of_view (exporter_of parts.now) view op other.now (lents_by (exporter_of parts.now) (N.named names.now) (handle_of_value other.now))) (exporter_of parts.now) result }
+    ensures { ReadsIn parts.now (λ e. spec.compare_of_view e view op other.now (lents_of_value e (N.named names.now) other.now)) result }
 {
     let stored = given(parts, view)?;
     check_equality(op)?;

@@ -1,5 +1,5 @@
 //! `hash`: the bytes that are fed to a hasher, as in Python's `hash(subject)`.
-ghost use Rattle.pybuf_state.specs.Answers.{exporter_of, IsWhole, Reads};
+ghost use Rattle.pybuf_state.specs.Answers.{IsWhole, ReadsIn};
 ghost use Rattle.pybuf_verbs_compare.specs.Hash as spec;
 
 use pybuf_command::{ExporterKind, LocalReply};
@@ -13,7 +13,7 @@ use pybuf_value::{ByteList, Fault, Halt};
 /// `UnknownName`.
 /// Example: of `bytes` `b"abc"` it replies the bytes `b"abc"`.
 pub fn of_own(parts: &Parts) -> Result<LocalReply, Halt>
-    ensures { Reads (spec.hash_of_own (exporter_of parts.now)) (exporter_of parts.now) result }
+    ensures { ReadsIn parts.now spec.hash_of_own result }
 {
     match parts.kind {
         ExporterKind::Vector { readonly: _ } => Err(Halt::Refused(Fault::UnknownName)),
@@ -32,7 +32,7 @@ pub fn of_own(parts: &Parts) -> Result<LocalReply, Halt>
 /// Example: of a view of `bytes` `b"abc"` it replies the bytes `b"abc"`.
 pub fn of_view(parts: &Parts, view: usize) -> Result<LocalReply, Halt>
     requires { IsWhole parts.now }
-    ensures { Reads (spec.hash_of_view (exporter_of parts.now) view) (exporter_of parts.now) result }
+    ensures { ReadsIn parts.now (λ e. spec.hash_of_view e view) result }
 {
     let layout = parts.live_layout(view)?;
     if !layout.is_readonly() {

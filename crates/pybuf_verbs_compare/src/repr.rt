@@ -2,7 +2,7 @@
 ghost use Rattle.std.specs.Prelude.{IsTrue, ◌≡◌, ◌++◌, [], codes, decimal, IfOk};
 ghost use Rattle.pybuf_value.specs.Quotes.{repr_of};
 ghost use Rattle.pybuf_value.specs.Texts.{is_ascii};
-ghost use Rattle.pybuf_state.specs.Answers.{exporter_of, Reads};
+ghost use Rattle.pybuf_state.specs.Answers.{ReadsIn};
 ghost use Rattle.pybuf_verbs_compare.specs.Repr as spec;
 
 use itoa::Buffer;
@@ -15,7 +15,7 @@ use std::alloc::Global;
 fn shown_between(parts: &Parts, before: &[u8], after: &[u8]) -> Result<LocalReply, Halt>
     requires before { IsTrue (is_ascii before.now) }
     requires after { IsTrue (is_ascii after.now) }
-    ensures { Reads (spec.shown (exporter_of parts.now) (repr_of before.now parts.now.bytes.items after.now)) (exporter_of parts.now) result }
+    ensures { ReadsIn parts.now (λ e. spec.shown e (repr_of before.now parts.now.bytes.items after.now)) result }
 {
     let text = repr_text(parts.alloc, before, parts.bytes.as_slice(), after).done()?;
     Ok(LocalReply::Shown(text))
@@ -26,7 +26,7 @@ fn shown_between(parts: &Parts, before: &[u8], after: &[u8]) -> Result<LocalRepl
 /// Refused with `UnknownName` for a vector, and with `OverflowError` where the text has more than `isize::MAX` bytes.
 /// Example: of the bytearray of the bytes 97 and 0 it shows `bytearray(b'a\x00')`.
 pub fn of_own(parts: &Parts) -> Result<LocalReply, Halt>
-    ensures { Reads (spec.repr_of_own (exporter_of parts.now)) (exporter_of parts.now) result }
+    ensures { ReadsIn parts.now spec.repr_of_own result }
 {
     match parts.kind {
         ExporterKind::Vector { readonly: _ } => Err(Halt::Refused(Fault::UnknownName)),
@@ -51,7 +51,7 @@ fn numbered(alloc: Global, before: &str, number: usize, after: &str) -> Made<Tex
 /// Refused with `UnknownName` where no such view was given.
 /// Example: of the view 0 it shows `<memory 0>`, and `<released memory 0>` once it is released.
 pub fn of_view(parts: &Parts, view: usize) -> Result<LocalReply, Halt>
-    ensures { Reads (spec.repr_of_view (exporter_of parts.now) view) (exporter_of parts.now) result }
+    ensures { ReadsIn parts.now (λ e. spec.repr_of_view e view) result }
 {
     let stored = parts.view(view)?;
     if stored.is_released() {

@@ -6,4 +6,5 @@ pub mod LentBytes
 pub mod Edits
 pub mod Asking
 pub mod Counting
+pub mod Paying
 pub mod Laws

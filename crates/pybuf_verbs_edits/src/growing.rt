@@ -1,17 +1,15 @@
 //! Edits that add bytes.
-ghost use Rattle.std.specs.Prelude.{◌≡◌, ◌≤◌, ◌<◌, ◌+◌, ◌*◌, ◌^◌, [], length, true, false, IfOk, IsErr, OnOk, OnErr};
-ghost use Rattle.pybuf_command.specs.Handles.{handle_of_value};
+ghost use Rattle.std.specs.Prelude.{◌≡◌, ◌<◌, ◌*◌, ◌^◌, [], length, IfOk, IsErr, OnOk, OnErr};
 ghost use Rattle.pybuf_command.specs.declared.kinds.Subject.TheVariants as subjects;
 ghost use Rattle.pybuf_slice.specs.Edits.{repeated_list};
-ghost use Rattle.pybuf_slice.specs.FrontContent.{IsSpare};
 ghost use Rattle.pybuf_state.specs.Exporter.{exports_of};
-ghost use Rattle.pybuf_state.specs.Loans.{lents_by, subject_in};
+ghost use Rattle.pybuf_state.specs.Loans.{subject_in, lents_of_value};
 ghost use Rattle.pybuf_state.specs.Names as names_spec;
-ghost use Rattle.pybuf_state.specs.Snaps.{snap_of_subject};
-ghost use Rattle.pybuf_state.specs.Answers.{exporter_of, IsWhole, Answers};
-ghost use Rattle.pybuf_verbs_edits.specs.Common.{is_own, is_itself};
+ghost use Rattle.pybuf_state.specs.Answers.{exporter_of, IsWhole, AnswersIn};
+ghost use Rattle.pybuf_verbs_edits.specs.Common.{is_own};
 ghost use Rattle.pybuf_verbs_edits.specs.Growing as spec;
 ghost use Rattle.pybuf_verbs_edits.specs.LentBytes as lent_spec;
+ghost use Rattle.pybuf_verbs_edits.specs.Paying.{IsPaid, EndIsPaid, ExtensionIsPaid, ValueIsPaid, LengthKeepsRoom};
 
 use crate::refusals::{refuse_iterator, refuse_view};
 use pybuf_command::{ExporterKind, LocalReply, Subject};
@@ -34,13 +32,9 @@ pub fn append<L: Ledger>(
     moved: &mut Steps<L>,
 ) -> Result<LocalReply, Halt>
     requires { IsWhole parts.old }
-    ensures answer { Answers (spec.append_of_own (exporter_of parts.old) value.now) (exporter_of parts.old) result (exporter_of parts.new) }
+    ensures answer { AnswersIn parts.old (λ e. spec.append_of_own e value.now) result parts.new }
     ensures counted { parts.new.exports ≡ exports_of (exporter_of parts.new) }
-    ensures counter { OnOk result (moved.new + parts.new.bytes.room ≤ moved.old + parts.old.bytes.room) }
-    ensures few { OnOk result (moved.new ≤ moved.old + length parts.old.bytes.items) }
-    ensures spare { OnOk result (IsSpare parts.new.bytes) }
-    ensures err_room { OnErr result (parts.new.bytes.room ≡ parts.old.bytes.room) }
-    ensures err_counter { OnErr result (moved.new ≡ moved.old) }
+    ensures paid { EndIsPaid parts.old moved.old result parts.new moved.new }
 {
     let ExporterKind::ByteArray = parts.kind else {
         return Err(Halt::Refused(Fault::UnknownName));
@@ -58,11 +52,9 @@ fn insert_byte<L: Ledger>(
     moved: &mut Steps<L>,
 ) -> Result<LocalReply, Halt>
     requires { IsWhole parts.old }
-    ensures answer { Answers (spec.inserted (exporter_of parts.old) index.now value.now) (exporter_of parts.old) result (exporter_of parts.new) }
+    ensures answer { AnswersIn parts.old (λ e. spec.inserted e index.now value.now) result parts.new }
     ensures counted { parts.new.exports ≡ exports_of (exporter_of parts.new) }
-    ensures few { OnOk result (moved.new ≤ moved.old + (length parts.old.bytes.items + length parts.new.bytes.items)) }
-    ensures err_room { OnErr result (parts.new.bytes.room ≡ parts.old.bytes.room) }
-    ensures err_counter { OnErr result (moved.new ≡ moved.old) }
+    ensures paid { IsPaid parts.old moved.old result parts.new moved.new }
 {
     let number = count_in(index)?;
     let byte = value_from_object(value)?;
@@ -81,11 +73,9 @@ pub fn insert<L: Ledger>(
     moved: &mut Steps<L>,
 ) -> Result<LocalReply, Halt>
     requires { IsWhole parts.old }
-    ensures answer { Answers (spec.insert_of_own (exporter_of parts.old) index.now value.now) (exporter_of parts.old) result (exporter_of parts.new) }
+    ensures answer { AnswersIn parts.old (λ e. spec.insert_of_own e index.now value.now) result parts.new }
     ensures counted { parts.new.exports ≡ exports_of (exporter_of parts.new) }
-    ensures few { OnOk result (moved.new ≤ moved.old + (length parts.old.bytes.items + length parts.new.bytes.items)) }
-    ensures err_room { OnErr result (parts.new.bytes.room ≡ parts.old.bytes.room) }
-    ensures err_counter { OnErr result (moved.new ≡ moved.old) }
+    ensures paid { IsPaid parts.old moved.old result parts.new moved.new }
 {
     match parts.kind {
         ExporterKind::ByteArray => insert_byte(parts, index, value, moved),
@@ -108,7 +98,7 @@ fn copies_of(alloc: Global, bytes: &[u8], times: usize) -> Made<Vec<u8>>
 /// Makes the bytes stand there so many times: each copy is written where it stays.
 fn repeat_bytes(parts: &mut Parts, times: usize) -> Result<LocalReply, Halt>
     requires { IsWhole parts.old }
-    ensures answer { Answers (spec.repeated (exporter_of parts.old) times) (exporter_of parts.old) result (exporter_of parts.new) }
+    ensures answer { AnswersIn parts.old (λ e. spec.repeated e times) result parts.new }
     ensures counted { parts.new.exports ≡ exports_of (exporter_of parts.new) }
     ensures err_room { OnErr result (parts.new.bytes.room ≡ parts.old.bytes.room) }
     ensures long { OnOk result (length parts.new.bytes.items ≡ length parts.old.bytes.items * times) }
@@ -125,10 +115,10 @@ fn repeat_bytes(parts: &mut Parts, times: usize) -> Result<LocalReply, Halt>
 /// The same, where no byte so many times asks for nothing.
 fn repeat(parts: &mut Parts, times: usize) -> Result<LocalReply, Halt>
     requires { IsWhole parts.old }
-    ensures answer { Answers (spec.repeated_unless_empty (exporter_of parts.old) times) (exporter_of parts.old) result (exporter_of parts.new) }
+    ensures answer { AnswersIn parts.old (λ e. spec.repeated_unless_empty e times) result parts.new }
     ensures counted { parts.new.exports ≡ exports_of (exporter_of parts.new) }
     ensures err_room { OnErr result (parts.new.bytes.room ≡ parts.old.bytes.room) }
-    ensures still_room { (times ≡ 1 → ⊥) → OnOk result (length parts.new.bytes.items ≡ length parts.old.bytes.items → parts.new.bytes.room ≡ parts.old.bytes.room) }
+    ensures still_room { (times ≡ 1 → ⊥) → LengthKeepsRoom parts.old result parts.new }
 {
     if parts.bytes.is_empty() {
         return Ok(LocalReply::Ok);
@@ -138,10 +128,10 @@ fn repeat(parts: &mut Parts, times: usize) -> Result<LocalReply, Halt>
 
 fn multiply(parts: &mut Parts, count: &Value) -> Result<LocalReply, Halt>
     requires { IsWhole parts.old }
-    ensures answer { Answers (spec.multiplied (exporter_of parts.old) count.now) (exporter_of parts.old) result (exporter_of parts.new) }
+    ensures answer { AnswersIn parts.old (λ e. spec.multiplied e count.now) result parts.new }
     ensures counted { parts.new.exports ≡ exports_of (exporter_of parts.new) }
     ensures err_room { OnErr result (parts.new.bytes.room ≡ parts.old.bytes.room) }
-    ensures still_room { OnOk result (length parts.new.bytes.items ≡ length parts.old.bytes.items → parts.new.bytes.room ≡ parts.old.bytes.room) }
+    ensures still_room { LengthKeepsRoom parts.old result parts.new }
 {
     let number = count_in(count)?;
     if number == 1 {
@@ -156,10 +146,10 @@ fn multiply(parts: &mut Parts, count: &Value) -> Result<LocalReply, Halt>
 /// Makes the bytes of a bytearray stand there so many times, and not at all where the number is negative.
 pub fn imul(parts: &mut Parts, count: &Value) -> Result<LocalReply, Halt>
     requires { IsWhole parts.old }
-    ensures answer { Answers (spec.imul_of_own (exporter_of parts.old) count.now) (exporter_of parts.old) result (exporter_of parts.new) }
+    ensures answer { AnswersIn parts.old (λ e. spec.imul_of_own e count.now) result parts.new }
     ensures counted { parts.new.exports ≡ exports_of (exporter_of parts.new) }
     ensures err_room { OnErr result (parts.new.bytes.room ≡ parts.old.bytes.room) }
-    ensures still_room { OnOk result (length parts.new.bytes.items ≡ length parts.old.bytes.items → parts.new.bytes.room ≡ parts.old.bytes.room) }
+    ensures still_room { LengthKeepsRoom parts.old result parts.new }
 {
     match parts.kind {
         ExporterKind::ByteArray => multiply(parts, count),
@@ -170,13 +160,9 @@ pub fn imul(parts: &mut Parts, count: &Value) -> Result<LocalReply, Halt>
 /// Adds bytes that lie outside the exporter.
 fn add<L: Ledger>(parts: &mut Parts, bytes: &[u8], moved: &mut Steps<L>) -> Result<LocalReply, Halt>
     requires { IsWhole parts.old }
-    ensures answer { Answers (lent_spec.bytes_added (exporter_of parts.old) bytes.now) (exporter_of parts.old) result (exporter_of parts.new) }
+    ensures answer { AnswersIn parts.old (λ e. lent_spec.bytes_added e bytes.now) result parts.new }
     ensures counted { parts.new.exports ≡ exports_of (exporter_of parts.new) }
-    ensures counter { OnOk result (moved.new + parts.new.bytes.room ≤ moved.old + parts.old.bytes.room) }
-    ensures few { OnOk result (moved.new ≤ moved.old + length parts.old.bytes.items) }
-    ensures spare { OnOk result (IsSpare parts.new.bytes) }
-    ensures err_room { OnErr result (parts.new.bytes.room ≡ parts.old.bytes.room) }
-    ensures err_counter { OnErr result (moved.new ≡ moved.old) }
+    ensures paid { EndIsPaid parts.old moved.old result parts.new moved.new }
 {
     parts.resizable()?;
     parts.append(bytes, moved)?;
@@ -191,13 +177,9 @@ fn extend_by_other<L: Ledger>(
 ) -> Result<LocalReply, Halt>
     requires whole { IsWhole parts.old }
     requires sound { names_spec.IsSoundOther other }
-    ensures answer { Answers (lent_spec.extended_by (exporter_of parts.old) (names_spec.snap_of_other other.entry)) (exporter_of parts.old) result (exporter_of parts.new) }
+    ensures answer { AnswersIn parts.old (λ e. lent_spec.extended_by e (names_spec.snap_of_other other.entry)) result parts.new }
     ensures counted { parts.new.exports ≡ exports_of (exporter_of parts.new) }
-    ensures counter { OnOk result (moved.new + parts.new.bytes.room ≤ moved.old + parts.old.bytes.room) }
-    ensures few { OnOk result (moved.new ≤ moved.old + length parts.old.bytes.items) }
-    ensures spare { OnOk result (IsSpare parts.new.bytes) }
-    ensures err_room { OnErr result (parts.new.bytes.room ≡ parts.old.bytes.room) }
-    ensures err_counter { OnErr result (moved.new ≡ moved.old) }
+    ensures paid { EndIsPaid parts.old moved.old result parts.new moved.new }
 {
     let bytes = content_of_other(parts.alloc, other)?;
     add(parts, bytes.as_slice(), moved)
@@ -212,15 +194,9 @@ fn extend_by_meaning<L: Ledger>(
 ) -> Result<LocalReply, Halt>
     requires whole { IsWhole parts.old }
     requires sound { names_spec.IsSoundMeaning meaning }
-    ensures answer { Answers (lent_spec.extended_as (exporter_of parts.old) (names_spec.meant meaning.entry)) (exporter_of parts.old) result (exporter_of parts.new) }
+    ensures answer { AnswersIn parts.old (λ e. lent_spec.extended_as e (names_spec.meant meaning.entry)) result parts.new }
     ensures counted { parts.new.exports ≡ exports_of (exporter_of parts.new) }
-    ensures counter { is_own (subject_in (names_spec.meant meaning.entry)) ≡ false → OnOk result (moved.new + parts.new.bytes.room ≤ moved.old + parts.old.bytes.room) }
-    ensures few { OnOk result (moved.new ≤ moved.old + length parts.old.bytes.items) }
-    ensures spare { is_own (subject_in (names_spec.meant meaning.entry)) ≡ false → OnOk result (IsSpare parts.new.bytes) }
-    ensures err_room { OnErr result (parts.new.bytes.room ≡ parts.old.bytes.room) }
-    ensures err_counter { OnErr result (moved.new ≡ moved.old) }
-    ensures still_room { is_own (subject_in (names_spec.meant meaning.entry)) ≡ true → OnOk result (length parts.new.bytes.items ≡ length parts.old.bytes.items → parts.new.bytes.room ≡ parts.old.bytes.room) }
-    ensures still_counter { is_own (subject_in (names_spec.meant meaning.entry)) ≡ true → OnOk result (moved.new ≡ moved.old) }
+    ensures paid { ExtensionIsPaid (is_own (subject_in (names_spec.meant meaning.entry))) parts.old moved.old result parts.new moved.new }
 {
     match meaning {
         Meaning::Own(Subject::Own) => repeat(parts, 2),
@@ -238,13 +214,9 @@ fn extend_by_parts<L: Ledger>(
     moved: &mut Steps<L>,
 ) -> Result<LocalReply, Halt>
     requires { IsWhole parts.old }
-    ensures answer { Answers (spec.extended (exporter_of parts.old) value.now []) (exporter_of parts.old) result (exporter_of parts.new) }
+    ensures answer { AnswersIn parts.old (λ e. spec.extended e value.now []) result parts.new }
     ensures counted { parts.new.exports ≡ exports_of (exporter_of parts.new) }
-    ensures counter { OnOk result (moved.new + parts.new.bytes.room ≤ moved.old + parts.old.bytes.room) }
-    ensures few { OnOk result (moved.new ≤ moved.old + length parts.old.bytes.items) }
-    ensures spare { OnOk result (IsSpare parts.new.bytes) }
-    ensures err_room { OnErr result (parts.new.bytes.room ≡ parts.old.bytes.room) }
-    ensures err_counter { OnErr result (moved.new ≡ moved.old) }
+    ensures paid { EndIsPaid parts.old moved.old result parts.new moved.new }
 {
     let bytes = bytes_from_object(parts.alloc, value, &SnapList::new(parts.alloc)).done()?;
     add(parts, bytes.as_slice(), moved)
@@ -258,15 +230,9 @@ fn extend_by_value<N: Names, L: Ledger>(
 ) -> Result<LocalReply, Halt>
     requires whole { IsWhole parts.old }
     requires fit { N.fit names.now }
-    ensures answer { Answers (spec.extended_or_doubled (exporter_of parts.old) value.now (lents_by (exporter_of parts.old) (N.named names.now) (handle_of_value value.now))) (exporter_of parts.old) result (exporter_of parts.new) }
+    ensures answer { AnswersIn parts.old (λ e. spec.extended_or_doubled e value.now (lents_of_value e (N.named names.now) value.now)) result parts.new }
     ensures counted { parts.new.exports ≡ exports_of (exporter_of parts.new) }
-    ensures counter { is_itself value.now (lents_by (exporter_of parts.old) (N.named names.now) (handle_of_value value.now)) ≡ false → OnOk result (moved.new + parts.new.bytes.room ≤ moved.old + parts.old.bytes.room) }
-    ensures few { OnOk result (moved.new ≤ moved.old + length parts.old.bytes.items) }
-    ensures spare { is_itself value.now (lents_by (exporter_of parts.old) (N.named names.now) (handle_of_value value.now)) ≡ false → OnOk result (IsSpare parts.new.bytes) }
-    ensures err_room { OnErr result (parts.new.bytes.room ≡ parts.old.bytes.room) }
-    ensures err_counter { OnErr result (moved.new ≡ moved.old) }
-    ensures still_room { is_itself value.now (lents_by (exporter_of parts.old) (N.named names.now) (handle_of_value value.now)) ≡ true → OnOk result (length parts.new.bytes.items ≡ length parts.old.bytes.items → parts.new.bytes.room ≡ parts.old.bytes.room) }
-    ensures still_counter { is_itself value.now (lents_by (exporter_of parts.old) (N.named names.now) (handle_of_value value.now)) ≡ true → OnOk result (moved.new ≡ moved.old) }
+    ensures paid { ValueIsPaid value.now (N.named names.now) parts.old moved.old result parts.new moved.new }
 {
     match value {
         Value::One(Scalar::Bytes(bytes)) => add(parts, bytes.as_slice(), moved),
@@ -289,15 +255,9 @@ pub fn extend<N: Names, L: Ledger>(
 ) -> Result<LocalReply, Halt>
     requires whole { IsWhole parts.old }
     requires fit { N.fit names.now }
-    ensures answer { Answers (spec.extend_of_own (exporter_of parts.old) value.now (lents_by (exporter_of parts.old) (N.named names.now) (handle_of_value value.now))) (exporter_of parts.old) result (exporter_of parts.new) }
+    ensures answer { AnswersIn parts.old (λ e. spec.extend_of_own e value.now (lents_of_value e (N.named names.now) value.now)) result parts.new }
     ensures counted { parts.new.exports ≡ exports_of (exporter_of parts.new) }
-    ensures counter { is_itself value.now (lents_by (exporter_of parts.old) (N.named names.now) (handle_of_value value.now)) ≡ false → OnOk result (moved.new + parts.new.bytes.room ≤ moved.old + parts.old.bytes.room) }
-    ensures few { OnOk result (moved.new ≤ moved.old + length parts.old.bytes.items) }
-    ensures spare { is_itself value.now (lents_by (exporter_of parts.old) (N.named names.now) (handle_of_value value.now)) ≡ false → OnOk result (IsSpare parts.new.bytes) }
-    ensures err_room { OnErr result (parts.new.bytes.room ≡ parts.old.bytes.room) }
-    ensures err_counter { OnErr result (moved.new ≡ moved.old) }
-    ensures still_room { is_itself value.now (lents_by (exporter_of parts.old) (N.named names.now) (handle_of_value value.now)) ≡ true → OnOk result (length parts.new.bytes.items ≡ length parts.old.bytes.items → parts.new.bytes.room ≡ parts.old.bytes.room) }
-    ensures still_counter { is_itself value.now (lents_by (exporter_of parts.old) (N.named names.now) (handle_of_value value.now)) ≡ true → OnOk result (moved.new ≡ moved.old) }
+    ensures paid { ValueIsPaid value.now (N.named names.now) parts.old moved.old result parts.new moved.new }
 {
     match parts.kind {
         ExporterKind::ByteArray => extend_by_value(parts, value, names, moved),
@@ -308,7 +268,7 @@ pub fn extend<N: Names, L: Ledger>(
 /// Adds the bytes of a view of the exporter itself, and reads none, as for `extend`.
 fn add_view(parts: &Parts, view: usize) -> Result<LocalReply, Halt>
     requires { IsWhole parts.now }
-    ensures answer { Answers (lent_spec.added_by (exporter_of parts.now) (snap_of_subject (exporter_of parts.now) (subjects.View view))) (exporter_of parts.now) result (exporter_of parts.now) }
+    ensures answer { AnswersIn parts.now (λ e. lent_spec.added_of e (subjects.View view)) result parts.now }
     ensures refused { IsErr result }
 {
     let layout = parts.live_layout(view)?;
@@ -320,7 +280,7 @@ fn add_view(parts: &Parts, view: usize) -> Result<LocalReply, Halt>
 
 /// Adds nothing of an iterator, as for `extend`.
 fn add_iterator(parts: &Parts, iterator: usize) -> Result<LocalReply, Halt>
-    ensures { Answers (lent_spec.added_by (exporter_of parts.now) (snap_of_subject (exporter_of parts.now) (subjects.Iter iterator))) (exporter_of parts.now) result (exporter_of parts.now) }
+    ensures { AnswersIn parts.now (λ e. lent_spec.added_of e (subjects.Iter iterator)) result parts.now }
 {
     parts.iterator(iterator)?;
     Err(Halt::Refused(Fault::Kind))
@@ -334,13 +294,9 @@ fn add_other<L: Ledger>(
 ) -> Result<LocalReply, Halt>
     requires whole { IsWhole parts.old }
     requires sound { names_spec.IsSoundOther other }
-    ensures answer { Answers (lent_spec.added_by (exporter_of parts.old) (names_spec.snap_of_other other.entry)) (exporter_of parts.old) result (exporter_of parts.new) }
+    ensures answer { AnswersIn parts.old (λ e. lent_spec.added_by e (names_spec.snap_of_other other.entry)) result parts.new }
     ensures counted { parts.new.exports ≡ exports_of (exporter_of parts.new) }
-    ensures counter { OnOk result (moved.new + parts.new.bytes.room ≤ moved.old + parts.old.bytes.room) }
-    ensures few { OnOk result (moved.new ≤ moved.old + length parts.old.bytes.items) }
-    ensures spare { OnOk result (IsSpare parts.new.bytes) }
-    ensures err_room { OnErr result (parts.new.bytes.room ≡ parts.old.bytes.room) }
-    ensures err_counter { OnErr result (moved.new ≡ moved.old) }
+    ensures paid { EndIsPaid parts.old moved.old result parts.new moved.new }
 {
     let bytes = run_of_other(other)?;
     add(parts, bytes, moved)
@@ -355,13 +311,9 @@ fn add_meaning<L: Ledger>(
 ) -> Result<LocalReply, Halt>
     requires whole { IsWhole parts.old }
     requires sound { names_spec.IsSoundMeaning meaning }
-    ensures answer { Answers (lent_spec.added_as (exporter_of parts.old) (names_spec.meant meaning.entry)) (exporter_of parts.old) result (exporter_of parts.new) }
+    ensures answer { AnswersIn parts.old (λ e. lent_spec.added_as e (names_spec.meant meaning.entry)) result parts.new }
     ensures counted { parts.new.exports ≡ exports_of (exporter_of parts.new) }
-    ensures counter { OnOk result (moved.new + parts.new.bytes.room ≤ moved.old + parts.old.bytes.room) }
-    ensures few { OnOk result (moved.new ≤ moved.old + length parts.old.bytes.items) }
-    ensures spare { OnOk result (IsSpare parts.new.bytes) }
-    ensures err_room { OnErr result (parts.new.bytes.room ≡ parts.old.bytes.room) }
-    ensures err_counter { OnErr result (moved.new ≡ moved.old) }
+    ensures paid { EndIsPaid parts.old moved.old result parts.new moved.new }
 {
     match meaning {
         Meaning::Own(Subject::Own) => Err(Halt::Refused(Fault::Buffer)),
@@ -380,13 +332,9 @@ fn add_value<N: Names, L: Ledger>(
 ) -> Result<LocalReply, Halt>
     requires whole { IsWhole parts.old }
     requires fit { N.fit names.now }
-    ensures answer { Answers (spec.added (exporter_of parts.old) value.now (lents_by (exporter_of parts.old) (N.named names.now) (handle_of_value value.now))) (exporter_of parts.old) result (exporter_of parts.new) }
+    ensures answer { AnswersIn parts.old (λ e. spec.added e value.now (lents_of_value e (N.named names.now) value.now)) result parts.new }
     ensures counted { parts.new.exports ≡ exports_of (exporter_of parts.new) }
-    ensures counter { OnOk result (moved.new + parts.new.bytes.room ≤ moved.old + parts.old.bytes.room) }
-    ensures few { OnOk result (moved.new ≤ moved.old + length parts.old.bytes.items) }
-    ensures spare { OnOk result (IsSpare parts.new.bytes) }
-    ensures err_room { OnErr result (parts.new.bytes.room ≡ parts.old.bytes.room) }
-    ensures err_counter { OnErr result (moved.new ≡ moved.old) }
+    ensures paid { EndIsPaid parts.old moved.old result parts.new moved.new }
 {
     match value {
         Value::One(Scalar::Bytes(bytes)) => add(parts, bytes.as_slice(), moved),
@@ -405,13 +353,9 @@ pub fn iadd<N: Names, L: Ledger>(
 ) -> Result<LocalReply, Halt>
     requires whole { IsWhole parts.old }
     requires fit { N.fit names.now }
-    ensures answer { Answers (spec.iadd_of_own (exporter_of parts.old) value.now (lents_by (exporter_of parts.old) (N.named names.now) (handle_of_value value.now))) (exporter_of parts.old) result (exporter_of parts.new) }
+    ensures answer { AnswersIn parts.old (λ e. spec.iadd_of_own e value.now (lents_of_value e (N.named names.now) value.now)) result parts.new }
     ensures counted { parts.new.exports ≡ exports_of (exporter_of parts.new) }
-    ensures counter { OnOk result (moved.new + parts.new.bytes.room ≤ moved.old + parts.old.bytes.room) }
-    ensures few { OnOk result (moved.new ≤ moved.old + length parts.old.bytes.items) }
-    ensures spare { OnOk result (IsSpare parts.new.bytes) }
-    ensures err_room { OnErr result (parts.new.bytes.room ≡ parts.old.bytes.room) }
-    ensures err_counter { OnErr result (moved.new ≡ moved.old) }
+    ensures paid { EndIsPaid parts.old moved.old result parts.new moved.new }
 {
     match parts.kind {
         ExporterKind::ByteArray => add_value(parts, value, names, moved),

@@ -1,8 +1,7 @@
 //! Values that are a view of the exporter itself, or an iterator of it: of neither are bytes taken.
 ghost use Rattle.std.specs.Prelude.{IsErr};
 ghost use Rattle.pybuf_command.specs.declared.kinds.Subject.TheVariants as subjects;
-ghost use Rattle.pybuf_state.specs.Snaps.{snap_of_subject};
-ghost use Rattle.pybuf_state.specs.Answers.{exporter_of, IsWhole, Answers};
+ghost use Rattle.pybuf_state.specs.Answers.{IsWhole, AnswersIn};
 ghost use Rattle.pybuf_verbs_edits.specs.LentBytes as lent_spec;
 
 use pybuf_command::LocalReply;
@@ -13,8 +12,8 @@ use pybuf_value::{Fault, Halt};
 /// released, or it is one because of which the length stays.
 pub(crate) fn refuse_view(parts: &Parts, view: usize) -> Result<LocalReply, Halt>
     requires { IsWhole parts.now }
-    ensures extended { Answers (lent_spec.extended_by (exporter_of parts.now) (snap_of_subject (exporter_of parts.now) (subjects.View view))) (exporter_of parts.now) result (exporter_of parts.now) }
-    ensures initialized { Answers (lent_spec.initialized_by (exporter_of parts.now) (snap_of_subject (exporter_of parts.now) (subjects.View view))) (exporter_of parts.now) result (exporter_of parts.now) }
+    ensures extended { AnswersIn parts.now (λ e. lent_spec.extended_of e (subjects.View view)) result parts.now }
+    ensures initialized { AnswersIn parts.now (λ e. lent_spec.initialized_of e (subjects.View view)) result parts.now }
     ensures refused { IsErr result }
 {
     parts.live_layout(view)?;
@@ -23,8 +22,8 @@ pub(crate) fn refuse_view(parts: &Parts, view: usize) -> Result<LocalReply, Halt
 
 /// The same of an iterator, which has no bytes.
 pub(crate) fn refuse_iterator(parts: &Parts, iterator: usize) -> Result<LocalReply, Halt>
-    ensures extended { Answers (lent_spec.extended_by (exporter_of parts.now) (snap_of_subject (exporter_of parts.now) (subjects.Iter iterator))) (exporter_of parts.now) result (exporter_of parts.now) }
-    ensures initialized { Answers (lent_spec.initialized_by (exporter_of parts.now) (snap_of_subject (exporter_of parts.now) (subjects.Iter iterator))) (exporter_of parts.now) result (exporter_of parts.now) }
+    ensures extended { AnswersIn parts.now (λ e. lent_spec.extended_of e (subjects.Iter iterator)) result parts.now }
+    ensures initialized { AnswersIn parts.now (λ e. lent_spec.initialized_of e (subjects.Iter iterator)) result parts.now }
 {
     parts.iterator(iterator)?;
     Err(Halt::Refused(Fault::Kind))

@@ -1,19 +1,20 @@
 //! Edits that put bytes in place of others.
-ghost use Rattle.std.specs.Prelude.{◌≡◌, ◌<◌, ◌≤◌, ◌+◌, ◌^◌, [], length, None, Some, Ok, Err, IfOk, OnOk, OnErr, MatchResult};
+ghost use Rattle.std.specs.Prelude.{◌≡◌, ◌<◌, ◌^◌, [], length, None, Some, Ok, Err, IfOk, OnErr, MatchResult};
 ghost use Rattle.pybuf_value.specs.Halting.{Gives};
 ghost use Rattle.pybuf_value.specs.Lent.{lent_bytes};
 ghost use Rattle.pybuf_value.specs.Snaps.{content_of_named};
-ghost use Rattle.pybuf_command.specs.Handles.{handle_of_value, handle_of_option};
+ghost use Rattle.pybuf_command.specs.Handles.{handle_of_option};
 ghost use Rattle.pybuf_command.specs.declared.kinds.Subject.TheVariants as subjects;
 ghost use Rattle.pybuf_state.specs.Exporter.{exports_of};
-ghost use Rattle.pybuf_state.specs.Loans.{lents_by, snap_in};
+ghost use Rattle.pybuf_state.specs.Loans.{lents_by, lents_of_value};
 ghost use Rattle.pybuf_state.specs.Names as names_spec;
 ghost use Rattle.pybuf_state.specs.Snaps.{snap_of_subject};
-ghost use Rattle.pybuf_state.specs.Answers.{exporter_of, IsWhole, Answers, Reads};
+ghost use Rattle.pybuf_state.specs.Answers.{exporter_of, IsWhole, AnswersIn, ReadsIn};
 ghost use Rattle.pybuf_index.specs.Parts.{picks_of};
 ghost use Rattle.pybuf_slice.specs.Edits.{assigned_list};
 ghost use Rattle.pybuf_verbs_edits.specs.Common as common;
 ghost use Rattle.pybuf_verbs_edits.specs.LentBytes as lent_spec;
+ghost use Rattle.pybuf_verbs_edits.specs.Paying.{PutIsPaid};
 ghost use Rattle.pybuf_verbs_edits.specs.Replacing as spec;
 
 use crate::refusals::{refuse_iterator, refuse_view};
@@ -63,13 +64,9 @@ fn put<L: Ledger>(
     moved: &mut Steps<L>,
 ) -> Result<LocalReply, Halt>
     requires { IsWhole parts.old }
-    ensures answer { Answers (spec.assigned (exporter_of parts.old) slice bytes.now) (exporter_of parts.old) result (exporter_of parts.new) }
+    ensures answer { AnswersIn parts.old (λ e. spec.assigned e slice bytes.now) result parts.new }
     ensures counted { parts.new.exports ≡ exports_of (exporter_of parts.new) }
-    ensures few { OnOk result (moved.new ≤ moved.old + (length parts.old.bytes.items + length parts.new.bytes.items)) }
-    ensures err_room { OnErr result (parts.new.bytes.room ≡ parts.old.bytes.room) }
-    ensures err_counter { OnErr result (moved.new ≡ moved.old) }
-    ensures still_room { OnOk result (length parts.new.bytes.items ≡ length parts.old.bytes.items → parts.new.bytes.room ≡ parts.old.bytes.room) }
-    ensures still_counter { OnOk result (length parts.new.bytes.items ≡ length parts.old.bytes.items → moved.new ≡ moved.old) }
+    ensures paid { PutIsPaid parts.old moved.old result parts.new moved.new }
 {
     let (range, step, count) = slice.adjust_indices(parts.bytes.len());
     if count == bytes.len() {
@@ -91,13 +88,9 @@ fn put_own<L: Ledger>(
     moved: &mut Steps<L>,
 ) -> Result<LocalReply, Halt>
     requires { IsWhole parts.old }
-    ensures answer { Answers (lent_spec.assigned_by (exporter_of parts.old) slice (snap_of_subject (exporter_of parts.old) subjects.Own)) (exporter_of parts.old) result (exporter_of parts.new) }
+    ensures answer { AnswersIn parts.old (λ e. lent_spec.assigned_of e slice subjects.Own) result parts.new }
     ensures counted { parts.new.exports ≡ exports_of (exporter_of parts.new) }
-    ensures few { OnOk result (moved.new ≤ moved.old + (length parts.old.bytes.items + length parts.new.bytes.items)) }
-    ensures err_room { OnErr result (parts.new.bytes.room ≡ parts.old.bytes.room) }
-    ensures err_counter { OnErr result (moved.new ≡ moved.old) }
-    ensures still_room { OnOk result (length parts.new.bytes.items ≡ length parts.old.bytes.items → parts.new.bytes.room ≡ parts.old.bytes.room) }
-    ensures still_counter { OnOk result (length parts.new.bytes.items ≡ length parts.old.bytes.items → moved.new ≡ moved.old) }
+    ensures paid { PutIsPaid parts.old moved.old result parts.new moved.new }
 {
     let content = Vec::from_slice(parts.alloc, parts.bytes.as_slice())?;
     put(parts, slice, content.as_slice(), moved)
@@ -121,13 +114,9 @@ fn put_view<L: Ledger>(
     moved: &mut Steps<L>,
 ) -> Result<LocalReply, Halt>
     requires { IsWhole parts.old }
-    ensures answer { Answers (lent_spec.assigned_by (exporter_of parts.old) slice (snap_of_subject (exporter_of parts.old) (subjects.View view))) (exporter_of parts.old) result (exporter_of parts.new) }
+    ensures answer { AnswersIn parts.old (λ e. lent_spec.assigned_of e slice (subjects.View view)) result parts.new }
     ensures counted { parts.new.exports ≡ exports_of (exporter_of parts.new) }
-    ensures few { OnOk result (moved.new ≤ moved.old + (length parts.old.bytes.items + length parts.new.bytes.items)) }
-    ensures err_room { OnErr result (parts.new.bytes.room ≡ parts.old.bytes.room) }
-    ensures err_counter { OnErr result (moved.new ≡ moved.old) }
-    ensures still_room { OnOk result (length parts.new.bytes.items ≡ length parts.old.bytes.items → parts.new.bytes.room ≡ parts.old.bytes.room) }
-    ensures still_counter { OnOk result (length parts.new.bytes.items ≡ length parts.old.bytes.items → moved.new ≡ moved.old) }
+    ensures paid { PutIsPaid parts.old moved.old result parts.new moved.new }
 {
     let content = content_of_view(parts, view)?;
     put(parts, slice, content.as_slice(), moved)
@@ -135,7 +124,7 @@ fn put_view<L: Ledger>(
 
 /// Puts nothing there: an iterator has no bytes.
 fn put_iterator(parts: &Parts, slice: SaturatedSlice, iterator: usize) -> Result<LocalReply, Halt>
-    ensures { Answers (lent_spec.assigned_by (exporter_of parts.now) slice (snap_of_subject (exporter_of parts.now) (subjects.Iter iterator))) (exporter_of parts.now) result (exporter_of parts.now) }
+    ensures { AnswersIn parts.now (λ e. lent_spec.assigned_of e slice (subjects.Iter iterator)) result parts.now }
 {
     parts.iterator(iterator)?;
     Err(Halt::Refused(Fault::Kind))
@@ -150,13 +139,9 @@ fn put_other<L: Ledger>(
 ) -> Result<LocalReply, Halt>
     requires whole { IsWhole parts.old }
     requires sound { names_spec.IsSoundOther other }
-    ensures answer { Answers (lent_spec.assigned_by (exporter_of parts.old) slice (names_spec.snap_of_other other.entry)) (exporter_of parts.old) result (exporter_of parts.new) }
+    ensures answer { AnswersIn parts.old (λ e. lent_spec.assigned_by e slice (names_spec.snap_of_other other.entry)) result parts.new }
     ensures counted { parts.new.exports ≡ exports_of (exporter_of parts.new) }
-    ensures few { OnOk result (moved.new ≤ moved.old + (length parts.old.bytes.items + length parts.new.bytes.items)) }
-    ensures err_room { OnErr result (parts.new.bytes.room ≡ parts.old.bytes.room) }
-    ensures err_counter { OnErr result (moved.new ≡ moved.old) }
-    ensures still_room { OnOk result (length parts.new.bytes.items ≡ length parts.old.bytes.items → parts.new.bytes.room ≡ parts.old.bytes.room) }
-    ensures still_counter { OnOk result (length parts.new.bytes.items ≡ length parts.old.bytes.items → moved.new ≡ moved.old) }
+    ensures paid { PutIsPaid parts.old moved.old result parts.new moved.new }
 {
     let bytes = content_of_other(parts.alloc, other)?;
     put(parts, slice, bytes.as_slice(), moved)
@@ -172,13 +157,9 @@ fn put_meaning<L: Ledger>(
 ) -> Result<LocalReply, Halt>
     requires whole { IsWhole parts.old }
     requires sound { names_spec.IsSoundMeaning meaning }
-    ensures answer { Answers (lent_spec.assigned_by (exporter_of parts.old) slice (snap_in (exporter_of parts.old) (names_spec.meant meaning.entry))) (exporter_of parts.old) result (exporter_of parts.new) }
+    ensures answer { AnswersIn parts.old (λ e. lent_spec.assigned_as e slice (names_spec.meant meaning.entry)) result parts.new }
     ensures counted { parts.new.exports ≡ exports_of (exporter_of parts.new) }
-    ensures few { OnOk result (moved.new ≤ moved.old + (length parts.old.bytes.items + length parts.new.bytes.items)) }
-    ensures err_room { OnErr result (parts.new.bytes.room ≡ parts.old.bytes.room) }
-    ensures err_counter { OnErr result (moved.new ≡ moved.old) }
-    ensures still_room { OnOk result (length parts.new.bytes.items ≡ length parts.old.bytes.items → parts.new.bytes.room ≡ parts.old.bytes.room) }
-    ensures still_counter { OnOk result (length parts.new.bytes.items ≡ length parts.old.bytes.items → moved.new ≡ moved.old) }
+    ensures paid { PutIsPaid parts.old moved.old result parts.new moved.new }
 {
     match meaning {
         Meaning::Own(Subject::Own) => put_own(parts, slice, moved),
@@ -197,13 +178,9 @@ fn put_parts<L: Ledger>(
     moved: &mut Steps<L>,
 ) -> Result<LocalReply, Halt>
     requires { IsWhole parts.old }
-    ensures answer { Answers (spec.assigned_from (exporter_of parts.old) slice value.now []) (exporter_of parts.old) result (exporter_of parts.new) }
+    ensures answer { AnswersIn parts.old (λ e. spec.assigned_from e slice value.now []) result parts.new }
     ensures counted { parts.new.exports ≡ exports_of (exporter_of parts.new) }
-    ensures few { OnOk result (moved.new ≤ moved.old + (length parts.old.bytes.items + length parts.new.bytes.items)) }
-    ensures err_room { OnErr result (parts.new.bytes.room ≡ parts.old.bytes.room) }
-    ensures err_counter { OnErr result (moved.new ≡ moved.old) }
-    ensures still_room { OnOk result (length parts.new.bytes.items ≡ length parts.old.bytes.items → parts.new.bytes.room ≡ parts.old.bytes.room) }
-    ensures still_counter { OnOk result (length parts.new.bytes.items ≡ length parts.old.bytes.items → moved.new ≡ moved.old) }
+    ensures paid { PutIsPaid parts.old moved.old result parts.new moved.new }
 {
     let bytes = bytes_from_object(parts.alloc, value, &SnapList::new(parts.alloc)).done()?;
     put(parts, slice, bytes.as_slice(), moved)
@@ -218,13 +195,9 @@ fn put_value<N: Names, L: Ledger>(
 ) -> Result<LocalReply, Halt>
     requires whole { IsWhole parts.old }
     requires fit { N.fit names.now }
-    ensures answer { Answers (spec.assigned_from (exporter_of parts.old) slice value.now (lents_by (exporter_of parts.old) (N.named names.now) (handle_of_value value.now))) (exporter_of parts.old) result (exporter_of parts.new) }
+    ensures answer { AnswersIn parts.old (λ e. spec.assigned_from e slice value.now (lents_of_value e (N.named names.now) value.now)) result parts.new }
     ensures counted { parts.new.exports ≡ exports_of (exporter_of parts.new) }
-    ensures few { OnOk result (moved.new ≤ moved.old + (length parts.old.bytes.items + length parts.new.bytes.items)) }
-    ensures err_room { OnErr result (parts.new.bytes.room ≡ parts.old.bytes.room) }
-    ensures err_counter { OnErr result (moved.new ≡ moved.old) }
-    ensures still_room { OnOk result (length parts.new.bytes.items ≡ length parts.old.bytes.items → parts.new.bytes.room ≡ parts.old.bytes.room) }
-    ensures still_counter { OnOk result (length parts.new.bytes.items ≡ length parts.old.bytes.items → moved.new ≡ moved.old) }
+    ensures paid { PutIsPaid parts.old moved.old result parts.new moved.new }
 {
     match value {
         Value::One(Scalar::Bytes(bytes)) => put(parts, slice, bytes.as_slice(), moved),
@@ -247,13 +220,9 @@ fn set_slice<N: Names, L: Ledger>(
 ) -> Result<LocalReply, Halt>
     requires whole { IsWhole parts.old }
     requires fit { N.fit names.now }
-    ensures answer { Answers (spec.slice_set (exporter_of parts.old) slice.now value.now (lents_by (exporter_of parts.old) (N.named names.now) (handle_of_value value.now))) (exporter_of parts.old) result (exporter_of parts.new) }
+    ensures answer { AnswersIn parts.old (λ e. spec.slice_set e slice.now value.now (lents_of_value e (N.named names.now) value.now)) result parts.new }
     ensures counted { parts.new.exports ≡ exports_of (exporter_of parts.new) }
-    ensures few { OnOk result (moved.new ≤ moved.old + (length parts.old.bytes.items + length parts.new.bytes.items)) }
-    ensures err_room { OnErr result (parts.new.bytes.room ≡ parts.old.bytes.room) }
-    ensures err_counter { OnErr result (moved.new ≡ moved.old) }
-    ensures still_room { OnOk result (length parts.new.bytes.items ≡ length parts.old.bytes.items → parts.new.bytes.room ≡ parts.old.bytes.room) }
-    ensures still_counter { OnOk result (length parts.new.bytes.items ≡ length parts.old.bytes.items → moved.new ≡ moved.old) }
+    ensures paid { PutIsPaid parts.old moved.old result parts.new moved.new }
 {
     let slice = SaturatedSlice::with_slice(slice)?;
     put_value(parts, slice, value, names, moved)
@@ -272,13 +241,9 @@ pub fn assign<N: Names, L: Ledger>(
 ) -> Result<LocalReply, Halt>
     requires whole { IsWhole parts.old }
     requires fit { N.fit names.now }
-    ensures answer { Answers (spec.assign_of_own (exporter_of parts.old) slice.now value.now (lents_by (exporter_of parts.old) (N.named names.now) (handle_of_value value.now))) (exporter_of parts.old) result (exporter_of parts.new) }
+    ensures answer { AnswersIn parts.old (λ e. spec.assign_of_own e slice.now value.now (lents_of_value e (N.named names.now) value.now)) result parts.new }
     ensures counted { parts.new.exports ≡ exports_of (exporter_of parts.new) }
-    ensures few { OnOk result (moved.new ≤ moved.old + (length parts.old.bytes.items + length parts.new.bytes.items)) }
-    ensures err_room { OnErr result (parts.new.bytes.room ≡ parts.old.bytes.room) }
-    ensures err_counter { OnErr result (moved.new ≡ moved.old) }
-    ensures still_room { OnOk result (length parts.new.bytes.items ≡ length parts.old.bytes.items → parts.new.bytes.room ≡ parts.old.bytes.room) }
-    ensures still_counter { OnOk result (length parts.new.bytes.items ≡ length parts.old.bytes.items → moved.new ≡ moved.old) }
+    ensures paid { PutIsPaid parts.old moved.old result parts.new moved.new }
 {
     match parts.kind {
         ExporterKind::ByteArray => set_slice(parts, slice, value, names, moved),
@@ -291,7 +256,7 @@ pub fn assign<N: Names, L: Ledger>(
 /// Puts a vector in place of all bytes, as it is.
 fn replace_all(parts: &mut Parts, bytes: Vec<u8>) -> Result<LocalReply, Halt>
     requires { IsWhole parts.old }
-    ensures answer { Answers (spec.replaced_all (exporter_of parts.old) bytes.items) (exporter_of parts.old) result (exporter_of parts.new) }
+    ensures answer { AnswersIn parts.old (λ e. spec.replaced_all e bytes.items) result parts.new }
     ensures counted { parts.new.exports ≡ exports_of (exporter_of parts.new) }
     ensures err_room { OnErr result (parts.new.bytes.room ≡ parts.old.bytes.room) }
 {
@@ -316,7 +281,7 @@ fn vector_of(alloc: Global, bytes: Lent<'_>) -> Made<Vec<u8>>
 /// By the exporter itself: its bytes stay where they are.
 fn init_by_own(parts: &Parts) -> Result<LocalReply, Halt>
     requires { IsWhole parts.now }
-    ensures { Answers (lent_spec.initialized_by (exporter_of parts.now) (snap_of_subject (exporter_of parts.now) subjects.Own)) (exporter_of parts.now) result (exporter_of parts.now) }
+    ensures { AnswersIn parts.now (λ e. lent_spec.initialized_of e subjects.Own) result parts.now }
 {
     parts.resizable()?;
     Ok(LocalReply::Ok)
@@ -326,7 +291,7 @@ fn init_by_own(parts: &Parts) -> Result<LocalReply, Halt>
 fn init_by_other(parts: &mut Parts, other: Other<'_>) -> Result<LocalReply, Halt>
     requires whole { IsWhole parts.old }
     requires sound { names_spec.IsSoundOther other }
-    ensures answer { Answers (lent_spec.initialized_by (exporter_of parts.old) (names_spec.snap_of_other other.entry)) (exporter_of parts.old) result (exporter_of parts.new) }
+    ensures answer { AnswersIn parts.old (λ e. lent_spec.initialized_by e (names_spec.snap_of_other other.entry)) result parts.new }
     ensures counted { parts.new.exports ≡ exports_of (exporter_of parts.new) }
     ensures err_room { OnErr result (parts.new.bytes.room ≡ parts.old.bytes.room) }
 {
@@ -342,7 +307,7 @@ fn init_by_other(parts: &mut Parts, other: Other<'_>) -> Result<LocalReply, Halt
 fn init_by_meaning(parts: &mut Parts, meaning: Meaning<'_>) -> Result<LocalReply, Halt>
     requires whole { IsWhole parts.old }
     requires sound { names_spec.IsSoundMeaning meaning }
-    ensures answer { Answers (lent_spec.initialized_by (exporter_of parts.old) (snap_in (exporter_of parts.old) (names_spec.meant meaning.entry))) (exporter_of parts.old) result (exporter_of parts.new) }
+    ensures answer { AnswersIn parts.old (λ e. lent_spec.initialized_as e (names_spec.meant meaning.entry)) result parts.new }
     ensures counted { parts.new.exports ≡ exports_of (exporter_of parts.new) }
     ensures err_room { OnErr result (parts.new.bytes.room ≡ parts.old.bytes.room) }
 {
@@ -358,7 +323,7 @@ fn init_by_meaning(parts: &mut Parts, meaning: Meaning<'_>) -> Result<LocalReply
 /// By options that read the bytes of no handle.
 fn init_by_options(parts: &mut Parts, options: &ByteInnerNewOptions) -> Result<LocalReply, Halt>
     requires { IsWhole parts.old }
-    ensures answer { Answers (spec.initialized (exporter_of parts.old) options.now []) (exporter_of parts.old) result (exporter_of parts.new) }
+    ensures answer { AnswersIn parts.old (λ e. spec.initialized e options.now []) result parts.new }
     ensures counted { parts.new.exports ≡ exports_of (exporter_of parts.new) }
     ensures err_room { OnErr result (parts.new.bytes.room ≡ parts.old.bytes.room) }
 {
@@ -374,7 +339,7 @@ fn initialize<N: Names>(
 ) -> Result<LocalReply, Halt>
     requires whole { IsWhole parts.old }
     requires fit { N.fit names.now }
-    ensures answer { Answers (spec.initialized (exporter_of parts.old) options.now (lents_by (exporter_of parts.old) (N.named names.now) (handle_of_option options.now.source))) (exporter_of parts.old) result (exporter_of parts.new) }
+    ensures answer { AnswersIn parts.old (λ e. spec.initialized e options.now (lents_by e (N.named names.now) (handle_of_option options.now.source))) result parts.new }
     ensures counted { parts.new.exports ≡ exports_of (exporter_of parts.new) }
     ensures err_room { OnErr result (parts.new.bytes.room ≡ parts.old.bytes.room) }
 {
@@ -394,7 +359,7 @@ pub fn init<N: Names>(
 ) -> Result<LocalReply, Halt>
     requires whole { IsWhole parts.old }
     requires fit { N.fit names.now }
-    ensures answer { Answers (spec.init_of_own (exporter_of parts.old) options.now (lents_by (exporter_of parts.old) (N.named names.now) (handle_of_option options.now.source))) (exporter_of parts.old) result (exporter_of parts.new) }
+    ensures answer { AnswersIn parts.old (λ e. spec.init_of_own e options.now (lents_by e (N.named names.now) (handle_of_option options.now.source))) result parts.new }
     ensures counted { parts.new.exports ≡ exports_of (exporter_of parts.new) }
     ensures err_room { OnErr result (parts.new.bytes.room ≡ parts.old.bytes.room) }
 {
@@ -409,7 +374,7 @@ pub fn init<N: Names>(
 /// Turns the order of the bytes of a bytearray round, in place.
 pub fn reverse(parts: &mut Parts) -> Result<LocalReply, Halt>
     requires { IsWhole parts.old }
-    ensures answer { Answers (spec.reverse_of_own (exporter_of parts.old)) (exporter_of parts.old) result (exporter_of parts.new) }
+    ensures answer { AnswersIn parts.old spec.reverse_of_own result parts.new }
     ensures counted { parts.new.exports ≡ exports_of (exporter_of parts.new) }
     ensures room { parts.new.bytes.room ≡ parts.old.bytes.room }
 {
@@ -425,7 +390,7 @@ pub fn reverse(parts: &mut Parts) -> Result<LocalReply, Halt>
 /// Replies a copy of a bytearray, of which a new one is made.
 pub fn copy(parts: &Parts) -> Result<LocalReply, Halt>
     requires { IsWhole parts.now }
-    ensures { Reads (spec.copy_of_own (exporter_of parts.now)) (exporter_of parts.now) result }
+    ensures { ReadsIn parts.now spec.copy_of_own result }
 {
     match parts.kind {
         ExporterKind::ByteArray => match snap_of_subject(parts, parts.alloc, Subject::Own)? {

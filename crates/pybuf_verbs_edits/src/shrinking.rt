@@ -1,10 +1,10 @@
 //! Edits that take bytes out.
-ghost use Rattle.std.specs.Prelude.{◌≡◌, ◌≤◌, ◌<◌, ◌+◌, ◌^◌, ℕ, true, length, OnOk, OnErr};
+ghost use Rattle.std.specs.Prelude.{◌≡◌, ◌<◌, ◌+◌, ◌^◌, ℕ, true, length, OnErr};
 ghost use Rattle.pybuf_index.specs.Parts.{picks_of};
 ghost use Rattle.pybuf_state.specs.Exporter.{exports_of};
-ghost use Rattle.pybuf_state.specs.Answers.{exporter_of, IsWhole, Answers};
-ghost use Rattle.pybuf_verbs_edits.specs.Counting as counting;
-ghost use Rattle.pybuf_verbs_edits.specs.Counting.{AreFirst, TakesFirst};
+ghost use Rattle.pybuf_state.specs.Answers.{exporter_of, IsWhole, AnswersIn};
+ghost use Rattle.pybuf_verbs_edits.specs.Counting.{AreFirst};
+ghost use Rattle.pybuf_verbs_edits.specs.Paying.{PopIsPaid, RemoveIsPaid, DeleteByteIsPaid, DeleteSliceIsPaid, DeleteIsPaid};
 ghost use Rattle.pybuf_verbs_edits.specs.Shrinking as spec;
 
 use pybuf_byte_slices::close_up;
@@ -30,13 +30,9 @@ fn pop_byte<L: Ledger>(
     moved: &mut Steps<L>,
 ) -> Result<LocalReply, Halt>
     requires { IsWhole parts.old }
-    ensures answer { Answers (spec.popped (exporter_of parts.old) index.now) (exporter_of parts.old) result (exporter_of parts.new) }
+    ensures answer { AnswersIn parts.old (λ e. spec.popped e index.now) result parts.new }
     ensures counted { parts.new.exports ≡ exports_of (exporter_of parts.new) }
-    ensures few { OnOk result (moved.new ≤ moved.old + (length parts.old.bytes.items + length parts.new.bytes.items)) }
-    ensures front_room { (n : ℕ) → TakesFirst (counting.popped_places (exporter_of parts.old) index.now) n → OnOk result (parts.new.bytes.room ≡ parts.old.bytes.room + n) }
-    ensures front_counter { (n : ℕ) → TakesFirst (counting.popped_places (exporter_of parts.old) index.now) n → OnOk result (moved.new ≡ moved.old) }
-    ensures err_room { OnErr result (parts.new.bytes.room ≡ parts.old.bytes.room) }
-    ensures err_counter { OnErr result (moved.new ≡ moved.old) }
+    ensures paid { PopIsPaid index.now parts.old moved.old result parts.new moved.new }
 {
     let number = count_or_last(index)?;
     parts.resizable()?;
@@ -57,13 +53,9 @@ pub fn pop<L: Ledger>(
     moved: &mut Steps<L>,
 ) -> Result<LocalReply, Halt>
     requires { IsWhole parts.old }
-    ensures answer { Answers (spec.pop_of_own (exporter_of parts.old) index.now) (exporter_of parts.old) result (exporter_of parts.new) }
+    ensures answer { AnswersIn parts.old (λ e. spec.pop_of_own e index.now) result parts.new }
     ensures counted { parts.new.exports ≡ exports_of (exporter_of parts.new) }
-    ensures few { OnOk result (moved.new ≤ moved.old + (length parts.old.bytes.items + length parts.new.bytes.items)) }
-    ensures front_room { (n : ℕ) → TakesFirst (counting.popped_places (exporter_of parts.old) index.now) n → OnOk result (parts.new.bytes.room ≡ parts.old.bytes.room + n) }
-    ensures front_counter { (n : ℕ) → TakesFirst (counting.popped_places (exporter_of parts.old) index.now) n → OnOk result (moved.new ≡ moved.old) }
-    ensures err_room { OnErr result (parts.new.bytes.room ≡ parts.old.bytes.room) }
-    ensures err_counter { OnErr result (moved.new ≡ moved.old) }
+    ensures paid { PopIsPaid index.now parts.old moved.old result parts.new moved.new }
 {
     match parts.kind {
         ExporterKind::ByteArray => pop_byte(parts, index, moved),
@@ -77,13 +69,9 @@ fn remove_byte<L: Ledger>(
     moved: &mut Steps<L>,
 ) -> Result<LocalReply, Halt>
     requires { IsWhole parts.old }
-    ensures answer { Answers (spec.removed (exporter_of parts.old) value.now) (exporter_of parts.old) result (exporter_of parts.new) }
+    ensures answer { AnswersIn parts.old (λ e. spec.removed e value.now) result parts.new }
     ensures counted { parts.new.exports ≡ exports_of (exporter_of parts.new) }
-    ensures few { OnOk result (moved.new ≤ moved.old + (length parts.old.bytes.items + length parts.new.bytes.items)) }
-    ensures front_room { (n : ℕ) → TakesFirst (counting.removed_places (exporter_of parts.old) value.now) n → OnOk result (parts.new.bytes.room ≡ parts.old.bytes.room + n) }
-    ensures front_counter { (n : ℕ) → TakesFirst (counting.removed_places (exporter_of parts.old) value.now) n → OnOk result (moved.new ≡ moved.old) }
-    ensures err_room { OnErr result (parts.new.bytes.room ≡ parts.old.bytes.room) }
-    ensures err_counter { OnErr result (moved.new ≡ moved.old) }
+    ensures paid { RemoveIsPaid value.now parts.old moved.old result parts.new moved.new }
 {
     let byte = value_from_object(value)?;
     parts.resizable()?;
@@ -103,13 +91,9 @@ pub fn remove<L: Ledger>(
     moved: &mut Steps<L>,
 ) -> Result<LocalReply, Halt>
     requires { IsWhole parts.old }
-    ensures answer { Answers (spec.remove_of_own (exporter_of parts.old) value.now) (exporter_of parts.old) result (exporter_of parts.new) }
+    ensures answer { AnswersIn parts.old (λ e. spec.remove_of_own e value.now) result parts.new }
     ensures counted { parts.new.exports ≡ exports_of (exporter_of parts.new) }
-    ensures few { OnOk result (moved.new ≤ moved.old + (length parts.old.bytes.items + length parts.new.bytes.items)) }
-    ensures front_room { (n : ℕ) → TakesFirst (counting.removed_places (exporter_of parts.old) value.now) n → OnOk result (parts.new.bytes.room ≡ parts.old.bytes.room + n) }
-    ensures front_counter { (n : ℕ) → TakesFirst (counting.removed_places (exporter_of parts.old) value.now) n → OnOk result (moved.new ≡ moved.old) }
-    ensures err_room { OnErr result (parts.new.bytes.room ≡ parts.old.bytes.room) }
-    ensures err_counter { OnErr result (moved.new ≡ moved.old) }
+    ensures paid { RemoveIsPaid value.now parts.old moved.old result parts.new moved.new }
 {
     match parts.kind {
         ExporterKind::ByteArray => remove_byte(parts, value, moved),
@@ -119,7 +103,7 @@ pub fn remove<L: Ledger>(
 
 fn remove_all(parts: &mut Parts) -> Result<LocalReply, Halt>
     requires { IsWhole parts.old }
-    ensures answer { Answers (spec.cleared (exporter_of parts.old)) (exporter_of parts.old) result (exporter_of parts.new) }
+    ensures answer { AnswersIn parts.old spec.cleared result parts.new }
     ensures counted { parts.new.exports ≡ exports_of (exporter_of parts.new) }
     ensures err_room { OnErr result (parts.new.bytes.room ≡ parts.old.bytes.room) }
 {
@@ -131,7 +115,7 @@ fn remove_all(parts: &mut Parts) -> Result<LocalReply, Halt>
 /// Takes all bytes out of a bytearray.
 pub fn clear(parts: &mut Parts) -> Result<LocalReply, Halt>
     requires { IsWhole parts.old }
-    ensures answer { Answers (spec.clear_of_own (exporter_of parts.old)) (exporter_of parts.old) result (exporter_of parts.new) }
+    ensures answer { AnswersIn parts.old spec.clear_of_own result parts.new }
     ensures counted { parts.new.exports ≡ exports_of (exporter_of parts.new) }
     ensures err_room { OnErr result (parts.new.bytes.room ≡ parts.old.bytes.room) }
 {
@@ -147,13 +131,9 @@ fn delete_byte<L: Ledger>(
     moved: &mut Steps<L>,
 ) -> Result<LocalReply, Halt>
     requires { IsWhole parts.old }
-    ensures answer { Answers (spec.byte_deleted (exporter_of parts.old) key.now) (exporter_of parts.old) result (exporter_of parts.new) }
+    ensures answer { AnswersIn parts.old (λ e. spec.byte_deleted e key.now) result parts.new }
     ensures counted { parts.new.exports ≡ exports_of (exporter_of parts.new) }
-    ensures front_room { (n : ℕ) → TakesFirst (counting.indexed_places (exporter_of parts.old) key.now) n → OnOk result (parts.new.bytes.room ≡ parts.old.bytes.room + n) }
-    ensures front_counter { (n : ℕ) → TakesFirst (counting.indexed_places (exporter_of parts.old) key.now) n → OnOk result (moved.new ≡ moved.old) }
-    ensures few { OnOk result (moved.new ≤ moved.old + (length parts.old.bytes.items + length parts.new.bytes.items)) }
-    ensures err_room { OnErr result (parts.new.bytes.room ≡ parts.old.bytes.room) }
-    ensures err_counter { OnErr result (moved.new ≡ moved.old) }
+    ensures paid { DeleteByteIsPaid key.now parts.old moved.old result parts.new moved.new }
 {
     let index = index_in(key)?;
     parts.resizable()?;
@@ -188,13 +168,9 @@ fn delete_slice<L: Ledger>(
     moved: &mut Steps<L>,
 ) -> Result<LocalReply, Halt>
     requires { IsWhole parts.old }
-    ensures answer { Answers (spec.slice_deleted (exporter_of parts.old) slice.now) (exporter_of parts.old) result (exporter_of parts.new) }
+    ensures answer { AnswersIn parts.old (λ e. spec.slice_deleted e slice.now) result parts.new }
     ensures counted { parts.new.exports ≡ exports_of (exporter_of parts.new) }
-    ensures front_room { (n : ℕ) → TakesFirst (counting.sliced_places (exporter_of parts.old) slice.now) n → OnOk result (parts.new.bytes.room ≡ parts.old.bytes.room + n) }
-    ensures front_counter { (n : ℕ) → TakesFirst (counting.sliced_places (exporter_of parts.old) slice.now) n → OnOk result (moved.new ≡ moved.old) }
-    ensures few { OnOk result (moved.new ≤ moved.old + (length parts.old.bytes.items + length parts.new.bytes.items)) }
-    ensures err_room { OnErr result (parts.new.bytes.room ≡ parts.old.bytes.room) }
-    ensures err_counter { OnErr result (moved.new ≡ moved.old) }
+    ensures paid { DeleteSliceIsPaid slice.now parts.old moved.old result parts.new moved.new }
 {
     indices_of_a_slice();
     let slice = SaturatedSlice::with_slice(slice)?;
@@ -216,13 +192,9 @@ fn delete_at<L: Ledger>(
     moved: &mut Steps<L>,
 ) -> Result<LocalReply, Halt>
     requires { IsWhole parts.old }
-    ensures answer { Answers (spec.deleted (exporter_of parts.old) key.now) (exporter_of parts.old) result (exporter_of parts.new) }
+    ensures answer { AnswersIn parts.old (λ e. spec.deleted e key.now) result parts.new }
     ensures counted { parts.new.exports ≡ exports_of (exporter_of parts.new) }
-    ensures few { OnOk result (moved.new ≤ moved.old + (length parts.old.bytes.items + length parts.new.bytes.items)) }
-    ensures front_room { (n : ℕ) → TakesFirst (counting.deleted_places (exporter_of parts.old) key.now) n → OnOk result (parts.new.bytes.room ≡ parts.old.bytes.room + n) }
-    ensures front_counter { (n : ℕ) → TakesFirst (counting.deleted_places (exporter_of parts.old) key.now) n → OnOk result (moved.new ≡ moved.old) }
-    ensures err_room { OnErr result (parts.new.bytes.room ≡ parts.old.bytes.room) }
-    ensures err_counter { OnErr result (moved.new ≡ moved.old) }
+    ensures paid { DeleteIsPaid key.now parts.old moved.old result parts.new moved.new }
 {
     match key {
         Value::Slice(slice) => delete_slice(parts, slice, moved),
@@ -238,13 +210,9 @@ pub fn delete<L: Ledger>(
     moved: &mut Steps<L>,
 ) -> Result<LocalReply, Halt>
     requires { IsWhole parts.old }
-    ensures answer { Answers (spec.delete_of_own (exporter_of parts.old) key.now) (exporter_of parts.old) result (exporter_of parts.new) }
+    ensures answer { AnswersIn parts.old (λ e. spec.delete_of_own e key.now) result parts.new }
     ensures counted { parts.new.exports ≡ exports_of (exporter_of parts.new) }
-    ensures few { OnOk result (moved.new ≤ moved.old + (length parts.old.bytes.items + length parts.new.bytes.items)) }
-    ensures front_room { (n : ℕ) → TakesFirst (counting.deleted_places (exporter_of parts.old) key.now) n → OnOk result (parts.new.bytes.room ≡ parts.old.bytes.room + n) }
-    ensures front_counter { (n : ℕ) → TakesFirst (counting.deleted_places (exporter_of parts.old) key.now) n → OnOk result (moved.new ≡ moved.old) }
-    ensures err_room { OnErr result (parts.new.bytes.room ≡ parts.old.bytes.room) }
-    ensures err_counter { OnErr result (moved.new ≡ moved.old) }
+    ensures paid { DeleteIsPaid key.now parts.old moved.old result parts.new moved.new }
 {
     match parts.kind {
         ExporterKind::ByteArray => delete_at(parts, key, moved),
@@ -254,7 +222,7 @@ pub fn delete<L: Ledger>(
 
 fn take_all(parts: &mut Parts) -> Result<LocalReply, Halt>
     requires { IsWhole parts.old }
-    ensures answer { Answers (spec.taken (exporter_of parts.old)) (exporter_of parts.old) result (exporter_of parts.new) }
+    ensures answer { AnswersIn parts.old spec.taken result parts.new }
     ensures counted { parts.new.exports ≡ exports_of (exporter_of parts.new) }
     ensures err_room { OnErr result (parts.new.bytes.room ≡ parts.old.bytes.room) }
 {
@@ -267,7 +235,7 @@ fn take_all(parts: &mut Parts) -> Result<LocalReply, Halt>
 /// Takes all bytes out of a vector, read-only or not. The reply is these bytes.
 pub fn take(parts: &mut Parts) -> Result<LocalReply, Halt>
     requires { IsWhole parts.old }
-    ensures answer { Answers (spec.take_of_own (exporter_of parts.old)) (exporter_of parts.old) result (exporter_of parts.new) }
+    ensures answer { AnswersIn parts.old spec.take_of_own result parts.new }
     ensures counted { parts.new.exports ≡ exports_of (exporter_of parts.new) }
     ensures err_room { OnErr result (parts.new.bytes.room ≡ parts.old.bytes.room) }
 {

@@ -1,6 +1,6 @@
 //! `iter`: a new iterator, as Python's `iter(subject)`.
 ghost use Rattle.pybuf_state.specs.Exporter.{exports_of};
-ghost use Rattle.pybuf_state.specs.Answers.{exporter_of, IsWhole, Answers};
+ghost use Rattle.pybuf_state.specs.Answers.{exporter_of, IsWhole, AnswersIn};
 ghost use Rattle.std.specs.Prelude.{◌≡◌};
 ghost use Rattle.pybuf_verbs_iters.specs.Iterators as spec;
 
@@ -15,7 +15,7 @@ use pybuf_value::{Fault, Halt};
 /// Example: of an exporter without iterators it replies `Iter(0)`.
 pub fn of_own(parts: &mut Parts) -> Result<LocalReply, Halt>
     requires { IsWhole parts.old }
-    ensures answer { Answers (spec.iter_of_own (exporter_of parts.old)) (exporter_of parts.old) result (exporter_of parts.new) }
+    ensures answer { AnswersIn parts.old spec.iter_of_own result parts.new }
     ensures counted { parts.new.exports ≡ exports_of (exporter_of parts.new) }
     ensures room { parts.new.bytes.room ≡ parts.old.bytes.room }
 {
@@ -32,7 +32,7 @@ pub fn of_own(parts: &mut Parts) -> Result<LocalReply, Halt>
 /// Example: of the view 0 of an exporter without iterators it replies `Iter(0)`.
 pub fn of_view(parts: &mut Parts, view: usize) -> Result<LocalReply, Halt>
     requires { IsWhole parts.old }
-    ensures answer { Answers (spec.iter_of_view (exporter_of parts.old) view) (exporter_of parts.old) result (exporter_of parts.new) }
+    ensures answer { AnswersIn parts.old (λ e. spec.iter_of_view e view) result parts.new }
     ensures counted { parts.new.exports ≡ exports_of (exporter_of parts.new) }
     ensures room { parts.new.bytes.room ≡ parts.old.bytes.room }
 {

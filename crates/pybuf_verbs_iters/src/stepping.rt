@@ -4,7 +4,7 @@ ghost use Rattle.pybuf_value.specs.Halting.{Gives};
 ghost use Rattle.pybuf_desc.specs.Slices.{first_entry};
 ghost use Rattle.pybuf_command.specs.declared.kinds.Subject.TheVariants as subjects;
 ghost use Rattle.pybuf_state.specs.Exporter.{exports_of};
-ghost use Rattle.pybuf_state.specs.Answers.{exporter_of, IsWhole, Answers, Reads};
+ghost use Rattle.pybuf_state.specs.Answers.{exporter_of, IsWhole, AnswersIn, ReadsIn};
 ghost use Rattle.pybuf_verbs_iters.specs.Iterators as spec;
 
 use pybuf_command::{LocalReply, Subject, Verb};
@@ -98,7 +98,7 @@ fn moved_on(parts: &mut Parts, k: usize, iterator: StoredIterator, item: Option<
 /// Refused as the item is, and the iterator is as before then.
 fn next(parts: &mut Parts, k: usize) -> Result<LocalReply, Halt>
     requires { IsWhole parts.old }
-    ensures answer { Answers (spec.next_of_iterator (exporter_of parts.old) k) (exporter_of parts.old) result (exporter_of parts.new) }
+    ensures answer { AnswersIn parts.old (λ e. spec.next_of_iterator e k) result parts.new }
     ensures counted { parts.new.exports ≡ exports_of (exporter_of parts.new) }
     ensures room { parts.new.bytes.room ≡ parts.old.bytes.room }
 {
@@ -128,7 +128,7 @@ fn iterator_over_bytes(parts: &Parts, k: usize) -> Result<StoredIterator, Fault>
 
 /// How many items are still to come.
 fn hint(parts: &Parts, k: usize) -> Result<LocalReply, Halt>
-    ensures { Reads (spec.hint_of_iterator (exporter_of parts.now) k) (exporter_of parts.now) result }
+    ensures { ReadsIn parts.now (λ e. spec.hint_of_iterator e k) result }
 {
     let iterator = iterator_over_bytes(parts, k)?;
     let mut left = 0;
@@ -156,7 +156,7 @@ fn clamped(count: usize, number: i128) -> usize
 /// Refused with `TypeError` where the state is no number.
 fn set_state(parts: &mut Parts, k: usize, state: &Value) -> Result<LocalReply, Halt>
     requires { IsWhole parts.old }
-    ensures answer { Answers (spec.setstate_of_iterator (exporter_of parts.old) k state.now) (exporter_of parts.old) result (exporter_of parts.new) }
+    ensures answer { AnswersIn parts.old (λ e. spec.setstate_of_iterator e k state.now) result parts.new }
     ensures counted { parts.new.exports ≡ exports_of (exporter_of parts.new) }
     ensures room { parts.new.bytes.room ≡ parts.old.bytes.room }
 {
@@ -183,7 +183,7 @@ fn set_state(parts: &mut Parts, k: usize, state: &Value) -> Result<LocalReply, H
 /// Example: over `b"ab"` `Verb::Next` replies the item 97, the item 98, and then `Stop`.
 pub fn of_iterator(parts: &mut Parts, k: usize, verb: &Verb) -> Result<LocalReply, Halt>
     requires { IsWhole parts.old }
-    ensures answer { Answers (spec.effect_on_iterator (exporter_of parts.old) k verb.now) (exporter_of parts.old) result (exporter_of parts.new) }
+    ensures answer { AnswersIn parts.old (λ e. spec.effect_on_iterator e k verb.now) result parts.new }
     ensures counted { parts.new.exports ≡ exports_of (exporter_of parts.new) }
     ensures room { parts.new.bytes.room ≡ parts.old.bytes.room }
 {

@@ -1,6 +1,6 @@
 //! `call`: a method of bytes and bytearrays, by its name.
 ghost use Rattle.std.specs.Prelude.{◌≡◌};
-ghost use Rattle.pybuf_state.specs.Answers.{exporter_of, Reads};
+ghost use Rattle.pybuf_state.specs.Answers.{ReadsIn};
 ghost use Rattle.pybuf_verbs_methods.specs.Calls as spec;
 
 use pybuf_bytes::MethodReply;
@@ -20,7 +20,7 @@ pub fn of_own<C: Contents>(
     method: &MethodCall,
     contents: &C,
 ) -> Result<LocalReply, Halt>
-    ensures { Reads (spec.call_of_own (exporter_of parts.now) method.now (C.pairs contents.now)) (exporter_of parts.now) result }
+    ensures { ReadsIn parts.now (λ e. spec.call_of_own e method.now (C.pairs contents.now)) result }
 {
     parts.check_string()?;
     let bytes = parts.bytes.as_slice();

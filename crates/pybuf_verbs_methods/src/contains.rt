@@ -1,5 +1,5 @@
 //! `contains`: whether a byte or bytes stand in bytes or in a bytearray.
-ghost use Rattle.pybuf_state.specs.Answers.{exporter_of, Reads};
+ghost use Rattle.pybuf_state.specs.Answers.{ReadsIn};
 ghost use Rattle.pybuf_verbs_methods.specs.Calls as spec;
 
 use pybuf_command::LocalReply;
@@ -14,7 +14,7 @@ use pybuf_value::{Halt, Value};
 /// `bytes_from_object` refuses.
 /// Example: in `b"Abc"` the value `b"bc"` replies `Truth(true)`.
 pub fn of_own<C: Contents>(parts: &Parts, value: &Value, contents: &C) -> Result<LocalReply, Halt>
-    ensures { Reads (spec.contains_of_own (exporter_of parts.now) value.now (C.pairs contents.now)) (exporter_of parts.now) result }
+    ensures { ReadsIn parts.now (λ e. spec.contains_of_own e value.now (C.pairs contents.now)) result }
 {
     parts.check_string()?;
     let found = contains_in(parts.alloc, parts.bytes.as_slice(), value, contents)?;

@@ -1,6 +1,6 @@
 //! `hex`: the bytes of a view as hexadecimal digits.
 ghost use Rattle.std.specs.Option.{option_copied};
-ghost use Rattle.pybuf_state.specs.Answers.{exporter_of, IsWhole, Reads};
+ghost use Rattle.pybuf_state.specs.Answers.{IsWhole, ReadsIn};
 ghost use Rattle.pybuf_verbs_methods.specs.Calls as spec;
 
 use pybuf_command::LocalReply;
@@ -23,7 +23,7 @@ pub fn of_view<C: Contents>(
     contents: &C,
 ) -> Result<LocalReply, Halt>
     requires { IsWhole parts.now }
-    ensures { Reads (spec.hex_of_view (exporter_of parts.now) view sep.now group.now (C.pairs contents.now)) (exporter_of parts.now) result }
+    ensures { ReadsIn parts.now (λ e. spec.hex_of_view e view sep.now group.now (C.pairs contents.now)) result }
 {
     pybuf_state::live_layouts_are_sound();
     let layout = parts.live_layout(view)?;

@@ -1,7 +1,8 @@
 -- `get`: the item at a key, or the bytes that a slice picks.
-use Rattle.std.specs.Prelude.{ℕ, length, slice_index, Result, Ok, Err, if◌then◌else◌}
+use Rattle.std.specs.Prelude.{◌≡◌, ℕ, ℤ, length, slice_index, Result, Ok, Err, MatchResult, if◌then◌else◌}
 use Rattle.pybuf_value.specs.declared.faults.Fault.{Fault}
 use Rattle.pybuf_value.specs.declared.faults.Fault.TheVariants as fault
+use Rattle.pybuf_value.specs.declared.values.Scalar.TheVariants as scalar
 use Rattle.pybuf_value.specs.declared.values.Value.{Value}
 use Rattle.pybuf_value.specs.declared.values.Value.TheVariants as value
 use Rattle.pybuf_value.specs.Refusing.{◌>>=◌}
@@ -15,6 +16,7 @@ use Rattle.pybuf_command.specs.declared.kinds.ExporterKind.TheVariants as kind
 use Rattle.pybuf_command.specs.declared.commands.LocalReply.{LocalReply}
 use Rattle.pybuf_command.specs.declared.commands.LocalReply.TheVariants as reply
 use Rattle.pybuf_memoryview.specs.Items.{index_in, byte_item, item_by}
+use Rattle.pybuf_memoryview.specs.KeyPlaces.{IsStartOf}
 use Rattle.pybuf_memoryview.specs.Keys.{item_of_key, names_itself}
 use Rattle.pybuf_state.specs.Exporter.{Exporter, live_layout}
 
@@ -51,3 +53,11 @@ abbrev pub item_of_view : Exporter → ℕ → Value → Result (Exporter × Loc
 item_of_view e k key = do
   layout ← live_layout e k
   if names_itself layout.shape key then Ok (e, reply.Itself) else item_of_layout e layout key
+
+-- of a view: the item at an index
+abbrev pub item_at_index : Exporter → ℕ → ℤ → Result (Exporter × LocalReply) Fault
+item_at_index e k index = item_of_view e k (value.One (scalar.Int index))
+
+-- the first place of an item of a layout, or the fault with which it isn't found
+abbrev pub FindsStart : Layout → Result ℕ Fault → Result ℕ Fault → Type 0
+FindsStart layout item result = MatchResult result (λ place. IsStartOf layout item place) (λ fault. item ≡ Err fault)

@@ -1,15 +1,12 @@
 //! `get`: the item at a key, or the bytes that a slice picks.
-ghost use Rattle.std.specs.Prelude.{◌≡◌, ◌+◌, ◌≤◌, length, Ok, Err, IfOk, MatchResult};
-ghost use Rattle.std.specs.Result.{result_map_both};
+ghost use Rattle.std.specs.Prelude.{◌≡◌, ◌+◌, ◌≤◌, length, IfOk};
 ghost use Rattle.pybuf_value.specs.declared.values.Scalar.TheVariants as scalars;
 ghost use Rattle.pybuf_value.specs.declared.values.Value.TheVariants as values;
-ghost use Rattle.pybuf_command.specs.declared.commands.LocalReply.TheVariants as replies;
 ghost use Rattle.pybuf_desc.specs.Items.{bytes_at};
 ghost use Rattle.pybuf_memoryview.specs.Items.{item_by};
 ghost use Rattle.pybuf_memoryview.specs.Keys.{item_of_key};
-ghost use Rattle.pybuf_memoryview.specs.KeyPlaces.{IsStartOf};
-ghost use Rattle.pybuf_state.specs.Answers.{exporter_of, IsWhole, Reads};
-ghost use Rattle.pybuf_verbs_reads.specs.Get.{part_of_own, get_of_own, item_of_view};
+ghost use Rattle.pybuf_state.specs.Answers.{IsWhole, ReadsIn, as_item};
+ghost use Rattle.pybuf_verbs_reads.specs.Get.{part_of_own, get_of_own, item_of_view, item_at_index, FindsStart};
 
 use pybuf_command::{ExporterKind, LocalReply};
 use pybuf_index::{SaturatedSlice, entry_in};
@@ -20,7 +17,7 @@ use pybuf_value::{ByteList, Fault, Halt, Item, Made, PySlice, Value};
 
 /// The bytes that a slice picks.
 fn slice_of_own(parts: &Parts, slice: &PySlice) -> Result<LocalReply, Halt>
-    ensures { Reads (part_of_own (exporter_of parts.now) (values.Slice slice.now)) (exporter_of parts.now) result }
+    ensures { ReadsIn parts.now (λ e. part_of_own e (values.Slice slice.now)) result }
 {
     let slice = SaturatedSlice::with_slice(slice)?;
     let bytes = getitem_by_slice(parts.alloc, parts.bytes.as_slice(), slice)?;
@@ -28,7 +25,7 @@ fn slice_of_own(parts: &Parts, slice: &PySlice) -> Result<LocalReply, Halt>
 }
 
 fn part_of_own(parts: &Parts, key: &Value) -> Result<LocalReply, Halt>
-    ensures { Reads (part_of_own (exporter_of parts.now) key.now) (exporter_of parts.now) result }
+    ensures { ReadsIn parts.now (λ e. part_of_own e key.now) result }
 {
     if let Value::Slice(slice) = key {
         return slice_of_own(parts, slice);
@@ -43,7 +40,7 @@ fn part_of_own(parts: &Parts, key: &Value) -> Result<LocalReply, Halt>
 /// range; and as `SaturatedSlice::with_slice` refuses a slice.
 /// Example: of `b"abc"` the key `-1` gets the item 99, and the key `0:2` gets `b"ab"`.
 pub fn of_own(parts: &Parts, key: &Value) -> Result<LocalReply, Halt>
-    ensures { Reads (get_of_own (exporter_of parts.now) key.now) (exporter_of parts.now) result }
+    ensures { ReadsIn parts.now (λ e. get_of_own e key.now) result }
 {
     match parts.kind {
         ExporterKind::Vector { readonly: _ } => Err(Halt::Refused(Fault::UnknownName)),
@@ -53,7 +50,7 @@ pub fn of_own(parts: &Parts, key: &Value) -> Result<LocalReply, Halt>
 
 /// Where the item at an index starts.
 fn place_of_index(layout: &KeptLayout, index: isize) -> Result<usize, Fault>
-    ensures { MatchResult result (λ place. IsStartOf layout.now (item_of_key layout.now.shape (values.One (scalars.Int index))) place) (λ fault. item_of_key layout.now.shape (values.One (scalars.Int index)) ≡ Err fault) }
+    ensures { FindsStart layout.now (item_of_key layout.now.shape (values.One (scalars.Int index))) result }
 {
     if layout.ndim() == 0 {
         return Err(Fault::Kind);
@@ -78,7 +75,7 @@ fn item_at(parts: &Parts, layout: &KeptLayout, place: usize) -> Made<Item>
 /// Example: of a view of `b"abc"` the index -1 gives `Item::One(Scalar::Int(99))`.
 pub fn item(parts: &Parts, view: usize, index: isize) -> Result<Item, Halt>
     requires { IsWhole parts.now }
-    ensures { Reads (item_of_view (exporter_of parts.now) view (values.One (scalars.Int index))) (exporter_of parts.now) (result_map_both replies.Item (λ halt. halt) result) }
+    ensures { ReadsIn parts.now (λ e. item_at_index e view index) (as_item result) }
 {
     let layout = parts.live_layout(view)?;
     let place = place_of_index(layout, index)?;
@@ -90,7 +87,7 @@ pub fn item(parts: &Parts, view: usize, index: isize) -> Result<Item, Halt>
 /// Example: of a view of `b"abc"` the key -1 gets the item 99.
 pub fn of_view(parts: &Parts, view: usize, key: &Value) -> Result<LocalReply, Halt>
     requires { IsWhole parts.now }
-    ensures { Reads (item_of_view (exporter_of parts.now) view key.now) (exporter_of parts.now) result }
+    ensures { ReadsIn parts.now (λ e. item_of_view e view key.now) result }
 {
     let layout = parts.live_layout(view)?;
     if names_itself(layout, key) {

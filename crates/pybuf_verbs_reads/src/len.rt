@@ -1,6 +1,6 @@
 //! `len`: the number of items.
 ghost use Rattle.std.specs.Prelude.{◌≡◌};
-ghost use Rattle.pybuf_state.specs.Answers.{exporter_of, IsWhole, Reads};
+ghost use Rattle.pybuf_state.specs.Answers.{IsWhole, ReadsIn};
 ghost use Rattle.pybuf_verbs_reads.specs.Len as spec;
 
 use pybuf_command::LocalReply;
@@ -18,7 +18,7 @@ pub fn count_item(count: usize) -> Item
 /// The number of bytes. It is never refused.
 /// Example: of `b"abc"` it replies the item 3.
 pub fn of_own(parts: &Parts) -> Result<LocalReply, Halt>
-    ensures { Reads (spec.len_of_own (exporter_of parts.now)) (exporter_of parts.now) result }
+    ensures { ReadsIn parts.now spec.len_of_own result }
 {
     Ok(LocalReply::Item(count_item(parts.bytes.len())))
 }
@@ -28,7 +28,7 @@ pub fn of_own(parts: &Parts) -> Result<LocalReply, Halt>
 /// Example: of a view in the shape `(2, 3)` it replies the item 2.
 pub fn of_view(parts: &Parts, view: usize) -> Result<LocalReply, Halt>
     requires { IsWhole parts.now }
-    ensures { Reads (spec.len_of_view (exporter_of parts.now) view) (exporter_of parts.now) result }
+    ensures { ReadsIn parts.now (λ e. spec.len_of_view e view) result }
 {
     let layout = parts.live_layout(view)?;
     if layout.ndim() == 0 {

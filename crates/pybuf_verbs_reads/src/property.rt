@@ -1,10 +1,8 @@
 //! `prop`: a property of an exporter or of a view.
-ghost use Rattle.std.specs.Prelude.{◌≡◌, map, pos, IfOk};
-ghost use Rattle.std.specs.Result.{result_map_both};
-ghost use Rattle.pybuf_command.specs.declared.commands.LocalReply.TheVariants as replies;
+ghost use Rattle.std.specs.Prelude.{◌≡◌, map, IfOk};
 ghost use Rattle.pybuf_command.specs.declared.commands.PropertyName.TheVariants as names;
 ghost use Rattle.pybuf_value.specs.Halting.{Gives};
-ghost use Rattle.pybuf_state.specs.Answers.{exporter_of, IsWhole, Reads};
+ghost use Rattle.pybuf_state.specs.Answers.{IsWhole, ReadsIn, as_counts, as_numbers};
 ghost use Rattle.pybuf_verbs_reads.specs.Property.{is_exports, property_of_layout, property_of_own, property_of_view};
 
 use crate::len::count_item;
@@ -19,7 +17,7 @@ use std::alloc::Global;
 /// Example: of an exporter with one unreleased view `PropertyName::Exports` replies the item 1.
 pub fn of_own(parts: &Parts, name: PropertyName) -> Result<LocalReply, Halt>
     requires { IsWhole parts.now }
-    ensures { Reads (property_of_own (exporter_of parts.now) name) (exporter_of parts.now) result }
+    ensures { ReadsIn parts.now (λ e. property_of_own e name) result }
 {
     match name {
         PropertyName::Exports => Ok(LocalReply::Item(count_item(parts.exports))),
@@ -76,7 +74,7 @@ fn strides_of(alloc: Global, dims: &[(usize, isize, isize)]) -> Made<Vec<isize>>
 /// Example: of a view of six bytes that was cast in the shape `(2, 3)` it has 2 and 3.
 pub fn shape(parts: &Parts, view: usize) -> Result<Vec<usize>, Halt>
     requires { IsWhole parts.now }
-    ensures { Reads (property_of_view (exporter_of parts.now) view names.Shape) (exporter_of parts.now) (result_map_both (λ shape. replies.Numbers (map (λ n. pos n) shape.items)) (λ halt. halt) result) }
+    ensures { ReadsIn parts.now (λ e. property_of_view e view names.Shape) (as_counts result) }
 {
     let layout = parts.live_layout(view)?;
     Ok(layout.counts(parts.alloc)?.into_vec())
@@ -87,7 +85,7 @@ pub fn shape(parts: &Parts, view: usize) -> Result<Vec<usize>, Halt>
 /// Example: of a view of six bytes that was cast in the shape `(2, 3)` it has 3 and 1.
 pub fn strides(parts: &Parts, view: usize) -> Result<Vec<isize>, Halt>
     requires { IsWhole parts.now }
-    ensures { Reads (property_of_view (exporter_of parts.now) view names.Strides) (exporter_of parts.now) (result_map_both (λ strides. replies.Numbers strides.items) (λ halt. halt) result) }
+    ensures { ReadsIn parts.now (λ e. property_of_view e view names.Strides) (as_numbers result) }
 {
     let layout = parts.live_layout(view)?;
     let (descriptor, _start) = layout.placed();
@@ -99,7 +97,7 @@ pub fn strides(parts: &Parts, view: usize) -> Result<Vec<isize>, Halt>
 /// Example: of a view of three bytes `PropertyName::Nbytes` replies the item 3.
 pub fn of_view(parts: &Parts, view: usize, name: PropertyName) -> Result<LocalReply, Halt>
     requires { IsWhole parts.now }
-    ensures { Reads (property_of_view (exporter_of parts.now) view name) (exporter_of parts.now) result }
+    ensures { ReadsIn parts.now (λ e. property_of_view e view name) result }
 {
     if is_exports(name) {
         return Err(Halt::Refused(Fault::UnknownName));

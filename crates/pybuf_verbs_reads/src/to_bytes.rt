@@ -1,10 +1,8 @@
 //! `bytes`: the subject's bytes, of a view in an order.
 ghost use Rattle.std.specs.Prelude.{◌≡◌, None, IfOk};
-ghost use Rattle.std.specs.Result.{result_map_both};
-ghost use Rattle.pybuf_command.specs.declared.commands.LocalReply.TheVariants as replies;
 ghost use Rattle.pybuf_desc.specs.Layouts.{LiesInside};
 ghost use Rattle.std.specs.Prelude.{length};
-ghost use Rattle.pybuf_state.specs.Answers.{exporter_of, IsWhole, Reads};
+ghost use Rattle.pybuf_state.specs.Answers.{IsWhole, ReadsIn, as_bytes};
 ghost use Rattle.pybuf_verbs_reads.specs.ToBytes.{bytes_of_own, bytes_of_view, by_letter, by_text, content_in, is_column_order};
 
 use pybuf_command::LocalReply;
@@ -16,7 +14,7 @@ use std::alloc::Global;
 /// All the bytes. An order that is given is refused with `TypeError`.
 /// Example: of `bytearray(b"abc")` without an order it replies `b"abc"`.
 pub fn of_own(parts: &Parts, order: &Option<Value>) -> Result<LocalReply, Halt>
-    ensures { Reads (bytes_of_own (exporter_of parts.now) order.now) (exporter_of parts.now) result }
+    ensures { ReadsIn parts.now (λ e. bytes_of_own e order.now) result }
 {
     if order.is_some() {
         return Err(Halt::Refused(Fault::Kind));
@@ -78,7 +76,7 @@ fn content_in(alloc: Global, columns: bool, bytes: &[u8], layout: &KeptLayout) -
 /// Example: of the view `memoryview(b"abcdef")[::-2]` it has the bytes `b"fdb"`.
 pub fn content(parts: &Parts, view: usize) -> Result<Vec<u8>, Halt>
     requires { IsWhole parts.now }
-    ensures { Reads (bytes_of_view (exporter_of parts.now) view None) (exporter_of parts.now) (result_map_both (λ bytes. replies.Bytes bytes.items) (λ halt. halt) result) }
+    ensures { ReadsIn parts.now (λ e. bytes_of_view e view None) (as_bytes result) }
 {
     let layout = parts.live_layout(view)?;
     Ok(content_of(parts.alloc, parts.bytes.as_slice(), layout)?)
@@ -91,7 +89,7 @@ pub fn content(parts: &Parts, view: usize) -> Result<Vec<u8>, Halt>
 /// Example: of the items `[[97, 98, 99], [100, 101, 102]]` in the format `B` the order `'F'` gives `b"adbecf"`.
 pub fn of_view(parts: &Parts, view: usize, order: &Option<Value>) -> Result<LocalReply, Halt>
     requires { IsWhole parts.now }
-    ensures { Reads (bytes_of_view (exporter_of parts.now) view order.now) (exporter_of parts.now) result }
+    ensures { ReadsIn parts.now (λ e. bytes_of_view e view order.now) result }
 {
     let layout = parts.live_layout(view)?;
     let columns = is_column_order(layout, order)?;

@@ -1,5 +1,5 @@
 //! `tolist`: the items of a view.
-ghost use Rattle.pybuf_state.specs.Answers.{exporter_of, IsWhole, Reads};
+ghost use Rattle.pybuf_state.specs.Answers.{IsWhole, ReadsIn};
 ghost use Rattle.pybuf_verbs_reads.specs.ToList.{list_of_view};
 
 use crate::lists::{items_of, list_shape};
@@ -13,7 +13,7 @@ use pybuf_value::Halt;
 /// Example: of a view of `b"Abc"` it replies the shape 3 and the items 65, 98 and 99.
 pub fn of_view(parts: &Parts, view: usize) -> Result<LocalReply, Halt>
     requires { IsWhole parts.now }
-    ensures { Reads (list_of_view (exporter_of parts.now) view) (exporter_of parts.now) result }
+    ensures { ReadsIn parts.now (λ e. list_of_view e view) result }
 {
     let layout = parts.live_layout(view)?;
     let shape = list_shape(parts.alloc, layout)?;

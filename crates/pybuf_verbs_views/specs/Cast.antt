@@ -1,10 +1,11 @@
 -- `cast` and `castf`: a new view of the same bytes, whose items have another format. It has one dimension or
 -- those of a shape, row by row or in column order. The new format is one native code, and either it or the
 -- view's format has single bytes as items.
-use Rattle.std.specs.Prelude.{ℕ, ◌*◌, ◌/◌, ◌%◌, ◌==◌, ◌&&◌, ◌||◌, not, List, [], ◌∷◌, length, nat_lt, ℤ, pos, negsuc, Bool, true, false, Option, Some, None, Result, Ok, Err, ok_or, if◌then◌else◌}
+use Rattle.std.specs.Prelude.{ℕ, ◌*◌, ◌/◌, ◌%◌, ◌==◌, ◌&&◌, ◌||◌, not, List, [], ◌∷◌, map, length, nat_lt, ℤ, pos, negsuc, Bool, true, false, Option, Some, None, Result, Ok, Err, ok_or, if◌then◌else◌}
 use Rattle.pybuf_value.specs.declared.faults.Fault.{Fault}
 use Rattle.pybuf_value.specs.declared.faults.Fault.TheVariants as fault
 use Rattle.pybuf_value.specs.declared.values.Scalar.{Scalar}
+use Rattle.pybuf_value.specs.declared.values.Scalar.TheVariants as scalar
 use Rattle.pybuf_value.specs.declared.values.Value.{Value}
 use Rattle.pybuf_value.specs.declared.values.Value.TheVariants as value
 use Rattle.pybuf_value.specs.Refusing.{◌>>=◌, unless}
@@ -97,6 +98,18 @@ cast_of_view e k format shape = do
   text ← text_in format
   cast ← layout_in_shape layout text shape
   Ok (with_view e cast)
+
+-- the entries of a shape as the parts of a value
+abbrev pub shape_parts : List ℕ → List Scalar
+shape_parts shape = map (λ n. scalar.Int (pos n)) shape
+
+-- by a text alone, in one dimension
+abbrev pub flat_cast_of_view : Exporter → ℕ → List ℕ → Result (Exporter × LocalReply) Fault
+flat_cast_of_view e k format = cast_of_view e k (value.One (scalar.Text format)) None
+
+-- by a text, in the dimensions of a shape
+abbrev pub shaped_cast_of_view : Exporter → ℕ → List ℕ → List ℕ → Result (Exporter × LocalReply) Fault
+shaped_cast_of_view e k format shape = cast_of_view e k (value.One (scalar.Text format)) (Some (value.Tuple (shape_parts shape)))
 
 -- the same in column order, by a shape that is a tuple or a list
 abbrev pub column_layout_in : Layout → List ℕ → Value → Result Layout Fault

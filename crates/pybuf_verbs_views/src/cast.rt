@@ -1,17 +1,14 @@
 //! `cast` and `castf`: a new view of the same bytes, with items of another format, in one dimension or in those of
 //! a shape, row by row or in column order. The format is one native code, and items of single bytes stand on one side at least.
-ghost use Rattle.std.specs.Prelude.{◌≡◌, ◌<◌, ◌≤◌, ◌*◌, ◌^◌, All, length, map, pos, true, None, Some, Ok, Err, IfOk, MatchResult};
+ghost use Rattle.std.specs.Prelude.{◌≡◌, ◌<◌, ◌≤◌, ◌*◌, ◌^◌, All, length, pos, true, None, Some, Ok, Err, IfOk};
 ghost use Rattle.std.specs.Prelude.{◌%◌, ◌==◌, ◌&&◌, not, false};
-ghost use Rattle.std.specs.Result.{result_map_both};
 ghost use Rattle.pybuf_value.specs.Halting.{Gives};
 ghost use Rattle.pybuf_value.specs.declared.values.Scalar.TheVariants as scalars;
-ghost use Rattle.pybuf_value.specs.declared.values.Value.TheVariants as values;
-ghost use Rattle.pybuf_command.specs.declared.commands.LocalReply.TheVariants as replies;
 ghost use Rattle.pybuf_desc.specs.Layouts.{product};
 ghost use Rattle.pybuf_desc.specs.Contiguous.{is_contiguous_layout};
 ghost use Rattle.pybuf_memoryview.specs.Orders.{nbytes_of};
 ghost use Rattle.pybuf_state.specs.Exporter.{exports_of};
-ghost use Rattle.pybuf_state.specs.Answers.{exporter_of, IsWhole, Answers};
+ghost use Rattle.pybuf_state.specs.Answers.{exporter_of, IsWhole, AnswersIn, ChangesTo, as_view};
 ghost use Rattle.pybuf_verbs_views.specs.Cast as spec;
 ghost use Rattle.pybuf_verbs_views.specs.CastEntries as entries;
 
@@ -128,7 +125,7 @@ fn entries_of(alloc: Global, size: usize, parts: &[Scalar]) -> Result<(CountList
 fn product_of(size: usize, shape: &[usize]) -> Result<usize, Fault>
     requires some { 0 < size }
     requires fits { size < 2 ^ 63 }
-    ensures exact { MatchResult result (λ _. spec.entries_of size (map (λ n. scalars.Int (pos n)) shape.now) ≡ Ok shape.now) (λ fault. spec.entries_of size (map (λ n. scalars.Int (pos n)) shape.now) ≡ Err fault) }
+    ensures exact { ChangesTo (spec.entries_of size (spec.shape_parts shape.now)) result shape.now }
     ensures entries { IfOk result (λ _. All (λ n. 0 < n) shape.now) }
     ensures product { IfOk result (λ r. r ≡ size * product shape.now) }
 {
@@ -229,7 +226,7 @@ fn shaped_layout_by(
     shape: &[usize],
 ) -> Result<KeptLayout, Halt>
     requires { is_contiguous_layout layout.now ≡ true }
-    ensures { Gives (spec.shaped_layout_of false layout.now text.now (map (λ n. scalars.Int (pos n)) shape.now)) result }
+    ensures { Gives (spec.shaped_layout_of false layout.now text.now (spec.shape_parts shape.now)) result }
 {
     if layout.has_zero() {
         return Err(Halt::Refused(Fault::Kind));
@@ -290,7 +287,7 @@ fn column_layout_in(
 /// Example: of a view of `b"\x01\x00\x02\x00"` the format `"H"` gives the number of a view with the items 1 and 2.
 pub fn add_flat(parts: &mut Parts, view: usize, format: &str) -> Result<usize, Halt>
     requires { IsWhole parts.old }
-    ensures answer { Answers (spec.cast_of_view (exporter_of parts.old) view (values.One (scalars.Text format.now)) None) (exporter_of parts.old) (result_map_both replies.View (λ halt. halt) result) (exporter_of parts.new) }
+    ensures answer { AnswersIn parts.old (λ e. spec.flat_cast_of_view e view format.now) (as_view result) parts.new }
     ensures counted { parts.new.exports ≡ exports_of (exporter_of parts.new) }
     ensures room { parts.new.bytes.room ≡ parts.old.bytes.room }
 {
@@ -312,7 +309,7 @@ pub fn add_shaped(
     shape: &[usize],
 ) -> Result<usize, Halt>
     requires { IsWhole parts.old }
-    ensures answer { Answers (spec.cast_of_view (exporter_of parts.old) view (values.One (scalars.Text format.now)) (Some (values.Tuple (map (λ n. scalars.Int (pos n)) shape.now)))) (exporter_of parts.old) (result_map_both replies.View (λ halt. halt) result) (exporter_of parts.new) }
+    ensures answer { AnswersIn parts.old (λ e. spec.shaped_cast_of_view e view format.now shape.now) (as_view result) parts.new }
     ensures counted { parts.new.exports ≡ exports_of (exporter_of parts.new) }
     ensures room { parts.new.bytes.room ≡ parts.old.bytes.room }
 {
@@ -338,7 +335,7 @@ pub fn of_view(
     shape: &Option<Value>,
 ) -> Result<LocalReply, Halt>
     requires { IsWhole parts.old }
-    ensures answer { Answers (spec.cast_of_view (exporter_of parts.old) view format.now shape.now) (exporter_of parts.old) result (exporter_of parts.new) }
+    ensures answer { AnswersIn parts.old (λ e. spec.cast_of_view e view format.now shape.now) result parts.new }
     ensures counted { parts.new.exports ≡ exports_of (exporter_of parts.new) }
     ensures room { parts.new.bytes.room ≡ parts.old.bytes.room }
 {
@@ -362,7 +359,7 @@ pub fn column_of_view(
     shape: &Value,
 ) -> Result<LocalReply, Halt>
     requires { IsWhole parts.old }
-    ensures answer { Answers (spec.column_cast_of_view (exporter_of parts.old) view format.now shape.now) (exporter_of parts.old) result (exporter_of parts.new) }
+    ensures answer { AnswersIn parts.old (λ e. spec.column_cast_of_view e view format.now shape.now) result parts.new }
     ensures counted { parts.new.exports ≡ exports_of (exporter_of parts.new) }
     ensures room { parts.new.bytes.room ≡ parts.old.bytes.room }
 {

@@ -1,5 +1,5 @@
 //! `contig`: a copy of a view's items, one after the other, of which a new exporter is made.
-ghost use Rattle.pybuf_state.specs.Answers.{exporter_of, IsWhole, Reads};
+ghost use Rattle.pybuf_state.specs.Answers.{IsWhole, ReadsIn};
 ghost use Rattle.pybuf_verbs_views.specs.Contiguous.{contiguous_of_view};
 
 use pybuf_command::LocalReply;
@@ -12,7 +12,7 @@ use pybuf_value::Halt;
 /// Example: of the view `memoryview(b"abcdef")[::-2]` it replies a `Snap` with the content `b"fdb"`.
 pub fn of_view(parts: &Parts, view: usize) -> Result<LocalReply, Halt>
     requires { IsWhole parts.now }
-    ensures { Reads (contiguous_of_view (exporter_of parts.now) view) (exporter_of parts.now) result }
+    ensures { ReadsIn parts.now (λ e. contiguous_of_view e view) result }
 {
     let layout = parts.live_layout(view)?;
     let snap = snap_of_copy(parts.alloc, parts.bytes.as_slice(), layout)?;

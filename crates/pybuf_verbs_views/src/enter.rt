@@ -1,5 +1,5 @@
 //! `enter`: the view itself, which must not be released.
-ghost use Rattle.pybuf_state.specs.Answers.{exporter_of, IsWhole, Reads};
+ghost use Rattle.pybuf_state.specs.Answers.{IsWhole, ReadsIn};
 ghost use Rattle.pybuf_verbs_views.specs.Enter.{enter_of_view};
 
 use pybuf_command::LocalReply;
@@ -11,7 +11,7 @@ use pybuf_value::Halt;
 /// Example: of an unreleased view it replies `Itself`.
 pub fn of_view(parts: &Parts, view: usize) -> Result<LocalReply, Halt>
     requires { IsWhole parts.now }
-    ensures { Reads (enter_of_view (exporter_of parts.now) view) (exporter_of parts.now) result }
+    ensures { ReadsIn parts.now (λ e. enter_of_view e view) result }
 {
     parts.live_layout(view)?;
     Ok(LocalReply::Itself)

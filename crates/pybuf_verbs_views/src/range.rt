@@ -1,7 +1,7 @@
 //! `range`: a new view of the bytes from one place up to another.
 ghost use Rattle.std.specs.Prelude.{◌≡◌, ◌+◌, ◌≤◌, IfOk};
 ghost use Rattle.pybuf_state.specs.Exporter.{exports_of};
-ghost use Rattle.pybuf_state.specs.Answers.{exporter_of, IsWhole, Answers};
+ghost use Rattle.pybuf_state.specs.Answers.{exporter_of, IsWhole, AnswersIn};
 ghost use Rattle.pybuf_verbs_views.specs.Range as spec;
 
 use pybuf_command::LocalReply;
@@ -32,7 +32,7 @@ fn part_between(count: usize, from: i128, to: i128) -> Result<(usize, usize), Fa
 /// Example: of `b"abcdef"` from 1 up to 4 it replies the number of a view of `b"bcd"`.
 pub fn of_own(parts: &mut Parts, from: &Value, to: &Value) -> Result<LocalReply, Halt>
     requires { IsWhole parts.old }
-    ensures answer { Answers (spec.range_of_own (exporter_of parts.old) from.now to.now) (exporter_of parts.old) result (exporter_of parts.new) }
+    ensures answer { AnswersIn parts.old (λ e. spec.range_of_own e from.now to.now) result parts.new }
     ensures counted { parts.new.exports ≡ exports_of (exporter_of parts.new) }
     ensures room { parts.new.bytes.room ≡ parts.old.bytes.room }
 {

@@ -1,7 +1,7 @@
 //! `release`: the view is released.
-ghost use Rattle.std.specs.Prelude.{◌≡◌, Ok, Err, OnErr, MatchResult};
+ghost use Rattle.std.specs.Prelude.{◌≡◌, OnErr};
 ghost use Rattle.pybuf_state.specs.Exporter.{exports_of};
-ghost use Rattle.pybuf_state.specs.Answers.{exporter_of, IsWhole, Answers};
+ghost use Rattle.pybuf_state.specs.Answers.{exporter_of, IsWhole, AnswersIn, ChangesTo};
 ghost use Rattle.pybuf_state.specs.Exporter.{released_in};
 ghost use Rattle.pybuf_verbs_views.specs.Release.{release_of_view};
 
@@ -15,7 +15,7 @@ use pybuf_value::{Fault, Halt};
 /// Example: `release(parts, 0)` is `Ok(())` after one view was made, also the second time.
 pub fn release(parts: &mut Parts, view: usize) -> Result<(), Fault>
     requires { IsWhole parts.old }
-    ensures exact { MatchResult result (λ _. released_in (exporter_of parts.old) view ≡ Ok (exporter_of parts.new)) (λ f. released_in (exporter_of parts.old) view ≡ Err f) }
+    ensures exact { ChangesTo (released_in (exporter_of parts.old) view) result (exporter_of parts.new) }
     ensures err { OnErr result (exporter_of parts.new ≡ exporter_of parts.old) }
     ensures whole { IsWhole parts.new }
     ensures room { parts.new.bytes.room ≡ parts.old.bytes.room }
@@ -32,7 +32,7 @@ pub fn release(parts: &mut Parts, view: usize) -> Result<(), Fault>
 /// Example: of a view of number 0 it replies `Ok`, also the second time.
 pub fn of_view(parts: &mut Parts, view: usize) -> Result<LocalReply, Halt>
     requires { IsWhole parts.old }
-    ensures answer { Answers (release_of_view (exporter_of parts.old) view) (exporter_of parts.old) result (exporter_of parts.new) }
+    ensures answer { AnswersIn parts.old (λ e. release_of_view e view) result parts.new }
     ensures counted { parts.new.exports ≡ exports_of (exporter_of parts.new) }
     ensures room { parts.new.bytes.room ≡ parts.old.bytes.room }
 {

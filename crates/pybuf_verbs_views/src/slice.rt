@@ -1,9 +1,7 @@
 //! `get` of a view by a slice: a new view of the items that the slice picks.
 ghost use Rattle.std.specs.Prelude.{◌≡◌};
-ghost use Rattle.std.specs.Result.{result_map_both};
-ghost use Rattle.pybuf_command.specs.declared.commands.LocalReply.TheVariants as replies;
 ghost use Rattle.pybuf_state.specs.Exporter.{exports_of};
-ghost use Rattle.pybuf_state.specs.Answers.{exporter_of, IsWhole, Answers};
+ghost use Rattle.pybuf_state.specs.Answers.{exporter_of, IsWhole, AnswersIn, as_view};
 ghost use Rattle.pybuf_verbs_views.specs.Slice.{slice_of_view};
 
 use pybuf_command::LocalReply;
@@ -16,7 +14,7 @@ use pybuf_value::{Fault, Halt, PySlice};
 /// Example: of a view of `b"abcdef"` the slice `1:4` gives the number of a view of `b"bcd"`.
 pub fn add(parts: &mut Parts, view: usize, slice: &PySlice) -> Result<usize, Halt>
     requires { IsWhole parts.old }
-    ensures answer { Answers (slice_of_view (exporter_of parts.old) view slice.now) (exporter_of parts.old) (result_map_both replies.View (λ halt. halt) result) (exporter_of parts.new) }
+    ensures answer { AnswersIn parts.old (λ e. slice_of_view e view slice.now) (as_view result) parts.new }
     ensures counted { parts.new.exports ≡ exports_of (exporter_of parts.new) }
     ensures room { parts.new.bytes.room ≡ parts.old.bytes.room }
 {
@@ -37,7 +35,7 @@ pub fn add(parts: &mut Parts, view: usize, slice: &PySlice) -> Result<usize, Hal
 /// Example: of a view of `b"abcdef"` the slice `::-2` gives a view of `b"fdb"`.
 pub fn of_view(parts: &mut Parts, view: usize, slice: &PySlice) -> Result<LocalReply, Halt>
     requires { IsWhole parts.old }
-    ensures answer { Answers (slice_of_view (exporter_of parts.old) view slice.now) (exporter_of parts.old) result (exporter_of parts.new) }
+    ensures answer { AnswersIn parts.old (λ e. slice_of_view e view slice.now) result parts.new }
     ensures counted { parts.new.exports ≡ exports_of (exporter_of parts.new) }
     ensures room { parts.new.bytes.room ≡ parts.old.bytes.room }
 {

@@ -1,9 +1,7 @@
 //! `view`: a new view of the subject.
 ghost use Rattle.std.specs.Prelude.{◌≡◌};
-ghost use Rattle.std.specs.Result.{result_map_both};
-ghost use Rattle.pybuf_command.specs.declared.commands.LocalReply.TheVariants as replies;
 ghost use Rattle.pybuf_state.specs.Exporter.{exports_of};
-ghost use Rattle.pybuf_state.specs.Answers.{exporter_of, IsWhole, Answers};
+ghost use Rattle.pybuf_state.specs.Answers.{exporter_of, IsWhole, AnswersIn, as_view};
 ghost use Rattle.pybuf_verbs_views.specs.View.{view_of_own, view_of_view};
 
 use pybuf_command::LocalReply;
@@ -15,7 +13,7 @@ use pybuf_value::{Halt, Twin};
 /// Example: of an exporter without views it is 0.
 pub fn add_whole(parts: &mut Parts) -> Result<usize, Halt>
     requires { IsWhole parts.old }
-    ensures answer { Answers (view_of_own (exporter_of parts.old)) (exporter_of parts.old) (result_map_both replies.View (λ halt. halt) result) (exporter_of parts.new) }
+    ensures answer { AnswersIn parts.old view_of_own (as_view result) parts.new }
     ensures counted { parts.new.exports ≡ exports_of (exporter_of parts.new) }
     ensures room { parts.new.bytes.room ≡ parts.old.bytes.room }
 {
@@ -28,7 +26,7 @@ pub fn add_whole(parts: &mut Parts) -> Result<usize, Halt>
 /// Example: of an exporter without views it replies `View(0)`.
 pub fn of_own(parts: &mut Parts) -> Result<LocalReply, Halt>
     requires { IsWhole parts.old }
-    ensures answer { Answers (view_of_own (exporter_of parts.old)) (exporter_of parts.old) result (exporter_of parts.new) }
+    ensures answer { AnswersIn parts.old view_of_own result parts.new }
     ensures counted { parts.new.exports ≡ exports_of (exporter_of parts.new) }
     ensures room { parts.new.bytes.room ≡ parts.old.bytes.room }
 {
@@ -41,7 +39,7 @@ pub fn of_own(parts: &mut Parts) -> Result<LocalReply, Halt>
 /// Example: of the view 0, the only one, it replies `View(1)`.
 pub fn of_view(parts: &mut Parts, view: usize) -> Result<LocalReply, Halt>
     requires { IsWhole parts.old }
-    ensures answer { Answers (view_of_view (exporter_of parts.old) view) (exporter_of parts.old) result (exporter_of parts.new) }
+    ensures answer { AnswersIn parts.old (λ e. view_of_view e view) result parts.new }
     ensures counted { parts.new.exports ≡ exports_of (exporter_of parts.new) }
     ensures room { parts.new.bytes.room ≡ parts.old.bytes.room }
 {

@@ -14,14 +14,18 @@ use Rattle.pybuf_value.specs.Snaps.{is_iterator}
 use Rattle.pybuf_index.specs.Parts.{saturated_parts_of}
 use Rattle.pybuf_desc.specs.Layouts.{Layout}
 use Rattle.pybuf_desc.specs.Slices.{slice_of}
+use Rattle.pybuf_command.specs.declared.kinds.ExporterKind.{ExporterKind}
 use Rattle.pybuf_command.specs.declared.kinds.ExporterKind.TheVariants as kind
+use Rattle.pybuf_command.specs.declared.kinds.Subject.{Subject}
+use Rattle.pybuf_command.specs.declared.kinds.Subject.TheVariants as subject
+use Rattle.pybuf_command.specs.declared.loans.Loan.{Loan}
 use Rattle.pybuf_command.specs.declared.commands.LocalReply.{LocalReply}
 use Rattle.pybuf_command.specs.declared.commands.LocalReply.TheVariants as reply
 use Rattle.pybuf_memoryview.specs.Fits.{is_row_of}
 use Rattle.pybuf_memoryview.specs.Items.{has_dimensions, is_none}
 use Rattle.pybuf_state.specs.Exporter.{Exporter, new_exporter, live_layout}
-use Rattle.pybuf_state.specs.Loans.{Lent, lent_as}
-use Rattle.pybuf_state.specs.Snaps.{snap_of_exporter}
+use Rattle.pybuf_state.specs.Loans.{Lent, lent_as, snap_in}
+use Rattle.pybuf_state.specs.Snaps.{snap_of_exporter, snap_of_subject}
 use Rattle.pybuf_verbs_writes.specs.Laid.{laid}
 
 -- The layout of the items that are written. A slice picks them, and the view has one dimension.
@@ -93,3 +97,25 @@ abbrev pub assign_of_lent : Exporter → ℕ → PySlice → Option Snap → Res
 assign_of_lent e k slice lent = do
   snap ← ok_or lent fault.UnknownName
   assign_of_view e k slice (value.One (scalar.Handle 0)) (lent_as 0 None (Some snap))
+
+-- ---- by plain arguments
+
+-- bytes over the items that the slice picks
+abbrev pub bytes_assigned : Exporter → ℕ → PySlice → List ℕ → Result (Exporter × LocalReply) Fault
+bytes_assigned e k slice bytes = assign_of_view e k slice (value.One (scalar.Bytes bytes)) []
+
+-- the items of a view of an exporter over those that the slice picks
+abbrev pub assigned_across : Exporter → ℕ → PySlice → Exporter → ℕ → Result (Exporter × LocalReply) Fault
+assigned_across e k slice lender source = assign_of_lent e k slice (snap_of_subject lender (subject.View source))
+
+-- bytes over the items of the target, as those of an exporter that has no other
+abbrev pub assigned_bytes : Exporter → Layout → ExporterKind → List ℕ → Result (Exporter × LocalReply) Fault
+assigned_bytes e target made bytes = assigned e target (snap_of_exporter (new_exporter made bytes))
+
+-- the items of a subject of an exporter over those of the target
+abbrev pub assigned_of : Exporter → Layout → Exporter → Subject → Result (Exporter × LocalReply) Fault
+assigned_of e target lender source = assigned_from e target (snap_of_subject lender source)
+
+-- those of what a handle is lent as
+abbrev pub assigned_as : Exporter → Layout → Option Loan → Result (Exporter × LocalReply) Fault
+assigned_as e target l = assigned_from e target (snap_in e l)

@@ -1,24 +1,21 @@
 //! `set` of a view by a slice: items are copied over those that the slice picks.
 ghost use Rattle.std.specs.Prelude.{◌≡◌, [], ◌∷◌, true, false, length, codes, Some, Ok, Err, IfOk, MatchResult, Option};
-ghost use Rattle.std.specs.Result.{result_map_both};
 ghost use Rattle.pybuf_value.specs.Halting.{Gives};
 ghost use Rattle.pybuf_value.specs.declared.values.Scalar.TheVariants as scalars;
 ghost use Rattle.pybuf_value.specs.declared.values.Value.TheVariants as values;
-ghost use Rattle.pybuf_command.specs.declared.commands.LocalReply.TheVariants as replies;
 ghost use Rattle.pybuf_value.specs.Snaps.{is_iterator};
 ghost use Rattle.pybuf_value.specs.declared.snaps.Snap as snaps;
 ghost use Rattle.pybuf_desc.specs.Layouts.{Layout, LiesInside};
 ghost use Rattle.pybuf_command.specs.declared.kinds.ExporterKind.{ExporterKind};
 ghost use Rattle.pybuf_command.specs.declared.kinds.ExporterKind.TheVariants as kinds;
 ghost use Rattle.pybuf_command.specs.declared.kinds.Subject.TheVariants as subjects;
-ghost use Rattle.pybuf_command.specs.Handles.{handle_of_value};
 ghost use Rattle.pybuf_memoryview.specs.Fits.{fits_snap};
 ghost use Rattle.pybuf_memoryview.specs.Snaps.{snap_of_layout};
-ghost use Rattle.pybuf_state.specs.Exporter.{Exporter, exports_of, new_exporter};
-ghost use Rattle.pybuf_state.specs.Loans.{lents_by, snap_in};
+ghost use Rattle.pybuf_state.specs.Exporter.{Exporter, exports_of};
+ghost use Rattle.pybuf_state.specs.Loans.{lents_of_value};
 ghost use Rattle.pybuf_state.specs.Names as names_spec;
 ghost use Rattle.pybuf_state.specs.Snaps.{snap_of_exporter, snap_of_subject};
-ghost use Rattle.pybuf_state.specs.Answers.{exporter_of, IsWhole, Answers};
+ghost use Rattle.pybuf_state.specs.Answers.{exporter_of, IsWhole, Answers, AnswersIn, as_done, as_bytes};
 ghost use Rattle.pybuf_state.specs.Laws.{IsSoundLayout};
 ghost use Rattle.pybuf_verbs_writes.specs.Assign as spec;
 
@@ -99,8 +96,8 @@ fn from_bytes(parts: &mut Parts, target: &KeptLayout, bytes: &[u8]) -> Result<Lo
     requires whole { IsWhole parts.old }
     requires one_dimension { length target.now.shape ≡ 1 }
     requires inside { LiesInside (length parts.old.bytes.items) target.now }
-    ensures answer { (kind : ExporterKind) → Answers (spec.assigned (exporter_of parts.old) target.now (snap_of_exporter (new_exporter kind bytes.now))) (exporter_of parts.old) result (exporter_of parts.new) }
-    ensures as_bytes { Answers (spec.assigned (exporter_of parts.old) target.now (snap_of_exporter (new_exporter kinds.Bytes bytes.now))) (exporter_of parts.old) result (exporter_of parts.new) }
+    ensures answer { (kind : ExporterKind) → AnswersIn parts.old (λ e. spec.assigned_bytes e target.now kind bytes.now) result parts.new }
+    ensures as_bytes { AnswersIn parts.old (λ e. spec.assigned_bytes e target.now kinds.Bytes bytes.now) result parts.new }
     ensures counted { parts.new.exports ≡ exports_of (exporter_of parts.new) }
     ensures room { parts.new.bytes.room ≡ parts.old.bytes.room }
 {
@@ -118,7 +115,7 @@ fn from_snap(parts: &mut Parts, target: &KeptLayout, snap: &Snap) -> Result<Loca
     requires inside { LiesInside (length parts.old.bytes.items) target.now }
     requires fits { fits_snap snap.now ≡ true }
     requires no_iterator { is_iterator snap.now.kind ≡ false }
-    ensures answer { Answers (spec.assigned (exporter_of parts.old) target.now snap.now) (exporter_of parts.old) result (exporter_of parts.new) }
+    ensures answer { AnswersIn parts.old (λ e. spec.assigned e target.now snap.now) result parts.new }
     ensures counted { parts.new.exports ≡ exports_of (exporter_of parts.new) }
     ensures room { parts.new.bytes.room ≡ parts.old.bytes.room }
 {
@@ -143,7 +140,7 @@ fn from_other(parts: &mut Parts, target: &KeptLayout, snap: &Snap) -> Result<Loc
     requires one_dimension { length target.now.shape ≡ 1 }
     requires inside { LiesInside (length parts.old.bytes.items) target.now }
     requires fits { fits_snap snap.now ≡ true }
-    ensures answer { Answers (spec.assigned_from (exporter_of parts.old) target.now (Some snap.now)) (exporter_of parts.old) result (exporter_of parts.new) }
+    ensures answer { AnswersIn parts.old (λ e. spec.assigned_from e target.now (Some snap.now)) result parts.new }
     ensures counted { parts.new.exports ≡ exports_of (exporter_of parts.new) }
     ensures room { parts.new.bytes.room ≡ parts.old.bytes.room }
 {
@@ -159,7 +156,7 @@ fn from_own(parts: &mut Parts, target: &KeptLayout) -> Result<LocalReply, Halt>
     requires whole { IsWhole parts.old }
     requires one_dimension { length target.now.shape ≡ 1 }
     requires inside { LiesInside (length parts.old.bytes.items) target.now }
-    ensures answer { Answers (spec.assigned (exporter_of parts.old) target.now (snap_of_exporter (exporter_of parts.old))) (exporter_of parts.old) result (exporter_of parts.new) }
+    ensures answer { AnswersIn parts.old (λ e. spec.assigned e target.now (snap_of_exporter e)) result parts.new }
     ensures counted { parts.new.exports ≡ exports_of (exporter_of parts.new) }
     ensures room { parts.new.bytes.room ≡ parts.old.bytes.room }
 {
@@ -194,7 +191,7 @@ fn from_view(parts: &mut Parts, target: &KeptLayout, view: usize) -> Result<Loca
     requires whole { IsWhole parts.old }
     requires one_dimension { length target.now.shape ≡ 1 }
     requires inside { LiesInside (length parts.old.bytes.items) target.now }
-    ensures answer { Answers (spec.assigned_from (exporter_of parts.old) target.now (snap_of_subject (exporter_of parts.old) (subjects.View view))) (exporter_of parts.old) result (exporter_of parts.new) }
+    ensures answer { AnswersIn parts.old (λ e. spec.assigned_of e target.now e (subjects.View view)) result parts.new }
     ensures counted { parts.new.exports ≡ exports_of (exporter_of parts.new) }
     ensures room { parts.new.bytes.room ≡ parts.old.bytes.room }
 {
@@ -224,7 +221,7 @@ fn from_view_across(
     requires lender_whole { IsWhole lender.now }
     requires one_dimension { length target.now.shape ≡ 1 }
     requires inside { LiesInside (length parts.old.bytes.items) target.now }
-    ensures answer { Answers (spec.assigned_from (exporter_of parts.old) target.now (snap_of_subject (exporter_of lender.now) (subjects.View view))) (exporter_of parts.old) result (exporter_of parts.new) }
+    ensures answer { AnswersIn parts.old (λ e. spec.assigned_of e target.now (exporter_of lender.now) (subjects.View view)) result parts.new }
     ensures counted { parts.new.exports ≡ exports_of (exporter_of parts.new) }
     ensures room { parts.new.bytes.room ≡ parts.old.bytes.room }
 {
@@ -252,7 +249,7 @@ fn from_subject_across(
     requires lender_whole { IsWhole lender.now }
     requires one_dimension { length target.now.shape ≡ 1 }
     requires inside { LiesInside (length parts.old.bytes.items) target.now }
-    ensures answer { Answers (spec.assigned_from (exporter_of parts.old) target.now (snap_of_subject (exporter_of lender.now) subject)) (exporter_of parts.old) result (exporter_of parts.new) }
+    ensures answer { AnswersIn parts.old (λ e. spec.assigned_of e target.now (exporter_of lender.now) subject) result parts.new }
     ensures counted { parts.new.exports ≡ exports_of (exporter_of parts.new) }
     ensures room { parts.new.bytes.room ≡ parts.old.bytes.room }
 {
@@ -274,7 +271,7 @@ fn from_meaning(
     requires one_dimension { length target.now.shape ≡ 1 }
     requires inside { LiesInside (length parts.old.bytes.items) target.now }
     requires sound { names_spec.IsSoundMeaning meaning }
-    ensures answer { Answers (spec.assigned_from (exporter_of parts.old) target.now (snap_in (exporter_of parts.old) (names_spec.meant meaning.entry))) (exporter_of parts.old) result (exporter_of parts.new) }
+    ensures answer { AnswersIn parts.old (λ e. spec.assigned_as e target.now (names_spec.meant meaning.entry)) result parts.new }
     ensures counted { parts.new.exports ≡ exports_of (exporter_of parts.new) }
     ensures room { parts.new.bytes.room ≡ parts.old.bytes.room }
 {
@@ -301,7 +298,7 @@ fn from_value<N: Names>(
     requires one_dimension { length target.now.shape ≡ 1 }
     requires inside { LiesInside (length parts.old.bytes.items) target.now }
     requires fit { N.fit names.now }
-    ensures answer { Answers (spec.assigned_of_value (exporter_of parts.old) target.now value.now (lents_by (exporter_of parts.old) (N.named names.now) (handle_of_value value.now))) (exporter_of parts.old) result (exporter_of parts.new) }
+    ensures answer { AnswersIn parts.old (λ e. spec.assigned_of_value e target.now value.now (lents_of_value e (N.named names.now) value.now)) result parts.new }
     ensures counted { parts.new.exports ≡ exports_of (exporter_of parts.new) }
     ensures room { parts.new.bytes.room ≡ parts.old.bytes.room }
 {
@@ -330,7 +327,7 @@ pub fn of_view<N: Names>(
 ) -> Result<LocalReply, Halt>
     requires whole { IsWhole parts.old }
     requires fit { N.fit names.now }
-    ensures answer { Answers (spec.assign_of_view (exporter_of parts.old) view slice.now value.now (lents_by (exporter_of parts.old) (N.named names.now) (handle_of_value value.now))) (exporter_of parts.old) result (exporter_of parts.new) }
+    ensures answer { AnswersIn parts.old (λ e. spec.assign_of_view e view slice.now value.now (lents_of_value e (N.named names.now) value.now)) result parts.new }
     ensures counted { parts.new.exports ≡ exports_of (exporter_of parts.new) }
     ensures room { parts.new.bytes.room ≡ parts.old.bytes.room }
 {
@@ -342,7 +339,7 @@ pub fn of_view<N: Names>(
 /// Example: over the slice `0:2` of a view of `b"abc"` the bytes `b"12"` make `b"12c"`.
 pub fn put_bytes(parts: &mut Parts, view: usize, slice: &PySlice, bytes: &[u8]) -> Result<(), Halt>
     requires { IsWhole parts.old }
-    ensures answer { Answers (spec.assign_of_view (exporter_of parts.old) view slice.now (values.One (scalars.Bytes bytes.now)) []) (exporter_of parts.old) (result_map_both (λ _. replies.Ok) (λ halt. halt) result) (exporter_of parts.new) }
+    ensures answer { AnswersIn parts.old (λ e. spec.bytes_assigned e view slice.now bytes.now) (as_done result) parts.new }
     ensures counted { parts.new.exports ≡ exports_of (exporter_of parts.new) }
     ensures room { parts.new.bytes.room ≡ parts.old.bytes.room }
 {
@@ -358,7 +355,7 @@ pub fn put_bytes(parts: &mut Parts, view: usize, slice: &PySlice, bytes: &[u8]) 
 /// Whether an assignment was made. Its reply, which says no more, is let go of by a call, since one that ends with its
 /// scope spells out all its variants.
 fn told(answer: Result<LocalReply, Halt>) -> Result<(), Halt>
-    ensures { (old : Exporter) (target : Layout) (lent : Option snaps.Snap) (new : Exporter) → Answers (spec.assigned_from old target lent) old answer new → Answers (spec.assigned_from old target lent) old (result_map_both (λ _. replies.Ok) (λ halt. halt) result) new }
+    ensures { (old : Exporter) (target : Layout) (lent : Option snaps.Snap) (new : Exporter) → Answers (spec.assigned_from old target lent) old answer new → Answers (spec.assigned_from old target lent) old (as_done result) new }
 {
     match answer {
         Ok(reply) => {
@@ -382,7 +379,7 @@ pub fn put_from(
 ) -> Result<(), Halt>
     requires whole { IsWhole parts.old }
     requires lender_whole { IsWhole lender.now }
-    ensures answer { Answers (spec.assign_of_lent (exporter_of parts.old) view slice.now (snap_of_subject (exporter_of lender.now) (subjects.View source))) (exporter_of parts.old) (result_map_both (λ _. replies.Ok) (λ halt. halt) result) (exporter_of parts.new) }
+    ensures answer { AnswersIn parts.old (λ e. spec.assigned_across e view slice.now (exporter_of lender.now) source) (as_done result) parts.new }
     ensures counted { parts.new.exports ≡ exports_of (exporter_of parts.new) }
     ensures room { parts.new.bytes.room ≡ parts.old.bytes.room }
 {
@@ -405,7 +402,7 @@ pub fn put_within(
     source: usize,
 ) -> Result<(), Halt>
     requires { IsWhole parts.old }
-    ensures answer { Answers (spec.assign_of_lent (exporter_of parts.old) view slice.now (snap_of_subject (exporter_of parts.old) (subjects.View source))) (exporter_of parts.old) (result_map_both (λ _. replies.Ok) (λ halt. halt) result) (exporter_of parts.new) }
+    ensures answer { AnswersIn parts.old (λ e. spec.assigned_across e view slice.now e source) (as_done result) parts.new }
     ensures counted { parts.new.exports ≡ exports_of (exporter_of parts.new) }
     ensures room { parts.new.bytes.room ≡ parts.old.bytes.room }
 {

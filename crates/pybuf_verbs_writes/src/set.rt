@@ -5,11 +5,10 @@ ghost use Rattle.pybuf_value.specs.declared.snaps.Snap.{Snap};
 ghost use Rattle.pybuf_struct.specs.Singles.{is_as_long, numeric_code};
 ghost use Rattle.pybuf_value.specs.declared.values.Scalar.TheVariants as scalar;
 ghost use Rattle.pybuf_memoryview.specs.Items.{piece_by, scalar_in};
-ghost use Rattle.pybuf_command.specs.Handles.{handle_of_value};
 ghost use Rattle.pybuf_state.specs.Exporter.{exports_of};
-ghost use Rattle.pybuf_state.specs.Loans.{lents_by};
+ghost use Rattle.pybuf_state.specs.Loans.{lents_of_value};
 ghost use Rattle.pybuf_state.specs.Sound.{IsFormed};
-ghost use Rattle.pybuf_state.specs.Answers.{exporter_of, IsWhole, Answers};
+ghost use Rattle.pybuf_state.specs.Answers.{exporter_of, IsWhole, AnswersIn, ChangesTo};
 ghost use Rattle.pybuf_verbs_writes.specs.Set.{byte_set, set_of_own, set_target, item_set, set_of_view};
 ghost use Rattle.pybuf_verbs_writes.specs.Writing.{bytes_packed, bytes_by_letter, single_byte_set, IsStartOfTarget};
 
@@ -25,7 +24,7 @@ use pybuf_value::{Fault, Halt, Scalar, ScalarList, SnapList, Value, value_from_o
 #[tactic(auto, using(crate::proofs::Bytes::bytes_with_one))]
 fn set_byte(parts: &mut Parts, key: &Value, value: &Value) -> Result<LocalReply, Halt>
     requires { IsWhole parts.old }
-    ensures answer { Answers (byte_set (exporter_of parts.old) key.now value.now) (exporter_of parts.old) result (exporter_of parts.new) }
+    ensures answer { AnswersIn parts.old (λ e. byte_set e key.now value.now) result parts.new }
     ensures counted { parts.new.exports ≡ exports_of (exporter_of parts.new) }
     ensures room { parts.new.bytes.room ≡ parts.old.bytes.room }
 {
@@ -43,7 +42,7 @@ fn set_byte(parts: &mut Parts, key: &Value, value: &Value) -> Result<LocalReply,
 /// Example: in `bytearray(b"abc")` the key 0 and the value 65 make `bytearray(b"Abc")`.
 pub fn of_own(parts: &mut Parts, key: &Value, value: &Value) -> Result<LocalReply, Halt>
     requires { IsWhole parts.old }
-    ensures answer { Answers (set_of_own (exporter_of parts.old) key.now value.now) (exporter_of parts.old) result (exporter_of parts.new) }
+    ensures answer { AnswersIn parts.old (λ e. set_of_own e key.now value.now) result parts.new }
     ensures counted { parts.new.exports ≡ exports_of (exporter_of parts.new) }
     ensures room { parts.new.bytes.room ≡ parts.old.bytes.room }
 {
@@ -85,7 +84,7 @@ fn write_item(
     pairs: &SnapList,
 ) -> Result<(), Fault>
     requires { place + format.now.size ≤ length bytes.old }
-    ensures exact { MatchResult result (λ _. bytes_packed bytes.old place format.now pairs.now args.now ≡ Ok bytes.new) (λ fault. bytes_packed bytes.old place format.now pairs.now args.now ≡ Err fault) }
+    ensures exact { ChangesTo (bytes_packed bytes.old place format.now pairs.now args.now) result bytes.new }
     ensures err { OnErr result (bytes.new ≡ bytes.old) }
 {
     let end = place + format.size();
@@ -100,7 +99,7 @@ fn write_item(
 fn write_byte(parts: &mut Parts, place: usize, value: &Value) -> Result<LocalReply, Halt>
     requires whole { IsWhole parts.old }
     requires inside { place < length parts.old.bytes.items }
-    ensures answer { Answers (single_byte_set (exporter_of parts.old) place value.now) (exporter_of parts.old) result (exporter_of parts.new) }
+    ensures answer { AnswersIn parts.old (λ e. single_byte_set e place value.now) result parts.new }
     ensures counted { parts.new.exports ≡ exports_of (exporter_of parts.new) }
     ensures room { parts.new.bytes.room ≡ parts.old.bytes.room }
 {
@@ -157,7 +156,7 @@ fn write_number(
 ) -> Result<(), Fault>
     requires numeric { is_as_long (numeric_code (letter ∷ [])) size ≡ true }
     requires inside { place + size ≤ length bytes.old }
-    ensures exact { (pairs : List (ℕ × Snap)) → MatchResult result (λ _. bytes_by_letter bytes.old place letter pairs value.now ≡ Ok bytes.new) (λ fault. bytes_by_letter bytes.old place letter pairs value.now ≡ Err fault) }
+    ensures exact { (pairs : List (ℕ × Snap)) → ChangesTo (bytes_by_letter bytes.old place letter pairs value.now) result bytes.new }
     ensures err { OnErr result (bytes.new ≡ bytes.old) }
 {
     let end = place + size;
@@ -183,7 +182,7 @@ pub fn of_view<N: Names>(
 ) -> Result<LocalReply, Halt>
     requires whole { IsWhole parts.old }
     requires fit { N.fit names.now }
-    ensures answer { Answers (set_of_view (exporter_of parts.old) view key.now value.now (lents_by (exporter_of parts.old) (N.named names.now) (handle_of_value value.now))) (exporter_of parts.old) result (exporter_of parts.new) }
+    ensures answer { AnswersIn parts.old (λ e. set_of_view e view key.now value.now (lents_of_value e (N.named names.now) value.now)) result parts.new }
     ensures counted { parts.new.exports ≡ exports_of (exporter_of parts.new) }
     ensures room { parts.new.bytes.room ≡ parts.old.bytes.room }
 {

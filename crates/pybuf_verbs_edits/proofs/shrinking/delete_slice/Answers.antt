@@ -28,13 +28,19 @@ returns-then-are_first-clause-answer g c =
     let free : resizable e ≡ Ok true = search rules in
     sliced_gone e (exporter_of c.remove_range.new.self) c.args.slice.now parts c.adjust_indices-step.result.2 parsed free counted first c.remove_range.ensures.same
 
-pub returns-then-are_first-clause-front_room : goal.returns-then-are_first-clause-front_room
-returns-then-are_first-clause-front_room g c =
-    λ n taken.
+pub returns-then-are_first-clause-paid : goal.returns-then-are_first-clause-paid
+returns-then-are_first-clause-paid g c =
     let e = exporter_of c.args.parts.now in
     let parts = c.in_ok-slice.slice in
     let places : List ℕ = picks_of (length e.bytes) parts in
     let counted : c.adjust_indices-step.result.2 ≡ length places = c.adjust_indices-step.ensures.count ∙ ap (λ (m : ℕ). length (picks_of m parts)) c.len.ensures.value in
     let parsed : saturated_parts_of c.args.slice.now ≡ Ok parts = search rules in
-    let many : length places ≡ n = first_count n places (sliced_first (length e.bytes) (saturated_parts_of c.args.slice.now) parts n parsed taken) in
-    omega (arith, c.remove_range.ensures.front_room refl, counted, many)
+    record {
+      few = omega (arith, c.remove_range.ensures.counter);
+      front_room = λ n taken.
+          let many : length places ≡ n = first_count n places (sliced_first (length e.bytes) (saturated_parts_of c.args.slice.now) parts n parsed taken) in
+          omega (arith, c.remove_range.ensures.front_room refl, counted, many);
+      front_counter = λ n taken. c.remove_range.ensures.front_counter refl;
+      err_room = tt;
+      err_counter = tt;
+    }
