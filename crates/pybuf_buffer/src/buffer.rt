@@ -2,11 +2,10 @@
 ghost use Rattle.std.specs.Prelude.{◌≡◌, ◌↔◌, ◌<◌, ◌+◌, ◌++◌, true, false, length, Ok, IsTrue, IfOk, OnOk, OnErr, MatchOption};
 ghost use Rattle.std.specs.Fn.{FnOnceReturnsAt};
 ghost use Rattle.pybuf_command.specs.declared.kinds.ExporterKind.TheVariants as kinds;
-ghost use Rattle.pybuf_command.specs.declared.commands.LocalReply.TheVariants as replies;
 ghost use Rattle.pybuf_desc.specs.Layouts.{bytes_layout};
 ghost use Rattle.pybuf_desc.specs.Contiguous.{is_contiguous_layout};
 ghost use Rattle.pybuf_desc.specs.Items.{content_of_layout};
-ghost use Rattle.pybuf_buffer.specs.Making.{checked_format};
+ghost use Rattle.pybuf_buffer.specs.Making.{checked_format, RefusedAs, content_at, AddsView};
 ghost use Rattle.pybuf_state.specs.Exporter.{new_exporter, with_view, released_in};
 ghost use Rattle.pybuf_state.specs.Live.{is_live, layout_of, is_writable_run};
 
@@ -51,7 +50,7 @@ fn format_fault(
     state: &ExporterState,
     desc: &BufferDescriptor,
 ) -> Made<Option<Fault>>
-    ensures { IfOk result (λ refused. MatchOption refused (checked_format state.now.exporter desc.now ≡ Ok true) (λ fault. checked_format state.now.exporter desc.now ≡ Err fault)) }
+    ensures { IfOk result (λ refused. RefusedAs (checked_format state.now.exporter desc.now) refused) }
 {
     match FormatSpec::parse(alloc, desc.format_text().as_slice())? {
         Outcome::Refused(fault) => Ok(Some(fault)),
@@ -78,7 +77,7 @@ fn append_by<L: Ledger>(
     requires name { blank.name ≡ L.name }
     requires parts { blank.parts ≡ L.parts }
     requires one { blank.parts ≡ 1 }
-    ensures bytes { OnOk result (buf.new.items ≡ buf.old.items ++ content_of_layout state.now.exporter.bytes (layout_of state.now.exporter buffer.now)) }
+    ensures bytes { OnOk result (buf.new.items ≡ buf.old.items ++ content_at state.now.exporter buffer.now) }
     ensures err { OnErr result (buf.new.items ≡ buf.old.items) }
 {
     let mut steps = Steps::<L>::new(blank);
@@ -224,7 +223,7 @@ impl PyBuffer {
         steps: &mut Steps<L>,
     ) -> Made<()>
         requires { is_live state.now.exporter self.now ≡ true }
-        ensures bytes { OnOk result (buf.new.items ≡ buf.old.items ++ content_of_layout state.now.exporter.bytes (layout_of state.now.exporter self.now)) }
+        ensures bytes { OnOk result (buf.new.items ≡ buf.old.items ++ content_at state.now.exporter self.now) }
         ensures steps { OnOk result (steps.new ≡ steps.old + range_count (layout_of state.now.exporter self.now)) }
         ensures err { OnErr result (buf.new.items ≡ buf.old.items) }
         ensures err_steps { OnErr result (steps.new ≡ steps.old) }
@@ -245,7 +244,7 @@ impl PyBuffer {
     /// Example: of a buffer of all bytes of `b"abc"` it appends `b"abc"`.
     pub fn append_uncounted(&self, state: &ExporterState, buf: &mut Vec<u8>) -> Made<()>
         requires { is_live state.now.exporter self.now ≡ true }
-        ensures bytes { OnOk result (buf.new.items ≡ buf.old.items ++ content_of_layout state.now.exporter.bytes (layout_of state.now.exporter self.now)) }
+        ensures bytes { OnOk result (buf.new.items ≡ buf.old.items ++ content_at state.now.exporter self.now) }
         ensures err { OnErr result (buf.new.items ≡ buf.old.items) }
     {
         append_by::<Brand>(self, state, buf, Blank::new(1))
@@ -262,7 +261,7 @@ impl PyBuffer {
     ) -> Made<R>
         requires live { is_live state.now.exporter self.now ≡ true }
         requires callable { F.IsAlwaysCallable f }
-        ensures { IfOk result (λ made. FnOnceReturnsAt F.FnOnce f (content_of_layout state.now.exporter.bytes (layout_of state.now.exporter self.now)) made) }
+        ensures { IfOk result (λ made. FnOnceReturnsAt F.FnOnce f (content_at state.now.exporter self.now) made) }
     {
         if let Some(bytes) = self.as_contiguous(state) {
             return Ok(f(bytes));
@@ -314,7 +313,7 @@ impl PyBuffer {
     /// Example: of `PyBuffer::of(0)`, the only view of its exporter, it is `PyBuffer::of(1)`, and `exports` is 2 then.
     pub fn retain(&self, alloc: Global, state: &mut ExporterState) -> Made<PyBuffer>
         requires { is_live state.old.exporter self.now ≡ true }
-        ensures ok { IfOk result (λ made. with_view state.old.exporter (layout_of state.old.exporter self.now) ≡ (state.new.exporter, replies.View made)) }
+        ensures ok { AddsView (λ e. layout_of e self.now) state.old result state.new }
         ensures err { OnErr result (state.new ≡ state.old) }
         ensures room { state.new.room ≡ state.old.room }
     {

@@ -1,8 +1,8 @@
 //! One command on an exporter, whose verb and loans are handed over.
-ghost use Rattle.std.specs.Prelude.{◌≡◌, [], false, IfOk, OnErr};
+ghost use Rattle.std.specs.Prelude.{◌≡◌, [], false, OnErr};
 ghost use Rattle.pybuf_state.specs.Fits.{LoansFit};
-ghost use Rattle.pybuf_exporter.specs.Step.{estep};
 ghost use Rattle.pybuf_exporter.specs.Counting.{edits_by};
+ghost use Rattle.pybuf_exporter.specs.Stepping.{StateStepsBy};
 
 use pybuf_command::{LoanList, LocalReply, Subject, Verb};
 use pybuf_exporter::ExporterState;
@@ -19,7 +19,7 @@ pub fn step_of(
     loans: LoanList,
 ) -> Made<LocalReply>
     requires { LoansFit loans }
-    ensures ok { IfOk result (λ r. estep state.old.exporter subject verb loans ≡ (state.new.exporter, r)) }
+    ensures ok { StateStepsBy subject verb loans state.old result state.new }
     ensures err { OnErr result (state.new ≡ state.old) }
     ensures kept { edits_by subject verb ≡ false → state.new.room ≡ state.old.room }
 {
@@ -38,7 +38,7 @@ pub fn step_without_loans(
     subject: Subject,
     verb: Verb,
 ) -> Made<LocalReply>
-    ensures ok { IfOk result (λ r. estep state.old.exporter subject verb [] ≡ (state.new.exporter, r)) }
+    ensures ok { StateStepsBy subject verb [] state.old result state.new }
     ensures err { OnErr result (state.new ≡ state.old) }
     ensures kept { edits_by subject verb ≡ false → state.new.room ≡ state.old.room }
 {

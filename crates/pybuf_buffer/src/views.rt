@@ -1,13 +1,12 @@
 //! New views of an exporter, of the items of a view, and what describes a view.
-ghost use Rattle.std.specs.Prelude.{◌≡◌, ◌↔◌, true, length, IsTrue, IfOk, OnErr};
-ghost use Rattle.pybuf_command.specs.declared.commands.LocalReply.TheVariants as replies;
+ghost use Rattle.std.specs.Prelude.{◌≡◌, ◌↔◌, true, length, IsTrue, OnErr};
 ghost use Rattle.pybuf_desc.specs.Descriptor.{shape_of};
 ghost use Rattle.pybuf_desc.specs.Places.{Stands};
 ghost use Rattle.pybuf_desc.specs.Valid.{IsValid, IsPlaced};
-ghost use Rattle.pybuf_state.specs.Exporter.{with_view};
 ghost use Rattle.pybuf_state.specs.Laws.{IsSoundLayout};
 ghost use Rattle.pybuf_state.specs.Live.{is_live, layout_of};
 ghost use Rattle.pybuf_buffer.specs.Blocks.{LiesInFirst};
+ghost use Rattle.pybuf_buffer.specs.Making.{AddsView};
 
 use pybuf_desc::{BufferDescriptor, descriptors_stand_for_one_view};
 use pybuf_exporter::ExporterState;
@@ -47,7 +46,7 @@ pub fn live_descriptor(state: &ExporterState, view: usize) -> (&BufferDescriptor
 /// One more view of the items of a view. The answer is its number.
 pub(crate) fn add_same(alloc: Global, state: &mut ExporterState, view: usize) -> Made<usize>
     requires { is_live state.old.exporter view ≡ true }
-    ensures ok { IfOk result (λ made. with_view state.old.exporter (layout_of state.old.exporter view) ≡ (state.new.exporter, replies.View made)) }
+    ensures ok { AddsView (λ e. layout_of e view) state.old result state.new }
     ensures err { OnErr result (state.new ≡ state.old) }
     ensures room { state.new.room ≡ state.old.room }
 {

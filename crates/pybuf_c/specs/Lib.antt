@@ -1,4 +1,5 @@
 pub mod Status
 pub mod Holding
-pub mod Worlds
 pub mod Numbers
+pub mod Worlds
+pub mod Packers

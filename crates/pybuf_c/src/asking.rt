@@ -1,8 +1,8 @@
 //! One command, asked of the world of a handle.
-ghost use Rattle.std.specs.Prelude.{◌≡◌, ◌≢◌};
+ghost use Rattle.std.specs.Prelude.{◌≡◌};
 ghost use Rattle.pybuf_console.specs.Held.{held};
-ghost use Rattle.pybuf_c.specs.Holding.{BothHold, NoneHold};
-ghost use Rattle.pybuf_c.specs.Worlds.{Answers};
+ghost use Rattle.pybuf_c.specs.Holding.{NoneHold};
+ghost use Rattle.pybuf_c.specs.Worlds.{CarriesOut};
 
 use crate::status::{NO_MEMORY, NO_WORLD, answer_number};
 use pybuf_command::Command;
@@ -16,7 +16,7 @@ use std::mem;
 pub fn ask(handle: &mut WorldHandle, alloc: Global, command: Command) -> u32
     ensures memory { result ≡ 1 → held handle.new ≡ held handle.old }
     ensures none { result ≡ 2 → NoneHold (held handle.old) (held handle.new) }
-    ensures answered { result ≢ 1 → result ≢ 2 → BothHold (Answers command result) (held handle.old) (held handle.new) }
+    ensures answered { CarriesOut command result handle.old handle.new }
 {
     let Some(mut console) = handle.take(alloc) else {
         command.let_go();
@@ -38,7 +38,7 @@ pub fn ask(handle: &mut WorldHandle, alloc: Global, command: Command) -> u32
 pub fn ask_unowned(handle: &mut WorldHandle, alloc: Global, command: Command) -> u32
     ensures memory { result ≡ 1 → held handle.new ≡ held handle.old }
     ensures none { result ≡ 2 → NoneHold (held handle.old) (held handle.new) }
-    ensures answered { result ≢ 1 → result ≢ 2 → BothHold (Answers command result) (held handle.old) (held handle.new) }
+    ensures answered { CarriesOut command result handle.old handle.new }
 {
     let Some(mut console) = handle.take(alloc) else {
         mem::forget(command);

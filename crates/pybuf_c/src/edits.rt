@@ -1,13 +1,10 @@
 //! Commands that change bytearrays and vectors, by numbers and bytes.
-ghost use Rattle.std.specs.Prelude.{◌≡◌, ◌≢◌, Some, None};
+ghost use Rattle.std.specs.Prelude.{◌≡◌, Some, None};
 ghost use Rattle.pybuf_command.specs.declared.commands.Verb.TheVariants as verb;
-ghost use Rattle.pybuf_command.specs.declared.worlds.Command.TheVariants as command;
-ghost use Rattle.pybuf_value.specs.declared.values.Value.TheVariants as value;
 ghost use Rattle.pybuf_console.specs.Held.{held};
-ghost use Rattle.pybuf_console.specs.Values.{bytes_value, number_value, object_value, slice_of};
-ghost use Rattle.pybuf_crossing.specs.Words.{signed};
-ghost use Rattle.pybuf_c.specs.Holding.{BothHold, NoneHold};
-ghost use Rattle.pybuf_c.specs.Worlds.{Answers};
+ghost use Rattle.pybuf_console.specs.Values.{bytes_value, number_value, object_value};
+ghost use Rattle.pybuf_c.specs.Holding.{NoneHold};
+ghost use Rattle.pybuf_c.specs.Worlds.{Asks, word_value, slice_value};
 
 use crate::asking::{ask, ask_unowned};
 use crate::status::NO_MEMORY;
@@ -29,7 +26,7 @@ pub extern "C" fn pybuf_proved_append(
 ) -> u32
     ensures memory { result ≡ 1 → held handle.new ≡ held handle.old }
     ensures none { result ≡ 2 → NoneHold (held handle.old) (held handle.new) }
-    ensures answered { result ≢ 1 → result ≢ 2 → BothHold (Answers (command.Do subject (verb.Append (number_value (signed negative magnitude)))) result) (held handle.old) (held handle.new) }
+    ensures answered { Asks subject (verb.Append (word_value negative magnitude)) result handle.old handle.new }
 {
     ask_unowned(
         handle,
@@ -54,7 +51,7 @@ pub extern "C" fn pybuf_proved_extend(
 ) -> u32
     ensures memory { result ≡ 1 → held handle.new ≡ held handle.old }
     ensures none { result ≡ 2 → NoneHold (held handle.old) (held handle.new) }
-    ensures answered { result ≢ 1 → result ≢ 2 → BothHold (Answers (command.Do subject (verb.Extend (bytes_value bytes.now))) result) (held handle.old) (held handle.new) }
+    ensures answered { Asks subject (verb.Extend (bytes_value bytes.now)) result handle.old handle.new }
 {
     match bytes_value(alloc, bytes) {
         Ok(value) => ask(
@@ -80,7 +77,7 @@ pub extern "C" fn pybuf_proved_extend_by(
 ) -> u32
     ensures memory { result ≡ 1 → held handle.new ≡ held handle.old }
     ensures none { result ≡ 2 → NoneHold (held handle.old) (held handle.new) }
-    ensures answered { result ≢ 1 → result ≢ 2 → BothHold (Answers (command.Do subject (verb.Extend (object_value other))) result) (held handle.old) (held handle.new) }
+    ensures answered { Asks subject (verb.Extend (object_value other)) result handle.old handle.new }
 {
     ask_unowned(
         handle,
@@ -107,7 +104,7 @@ pub extern "C" fn pybuf_proved_insert(
 ) -> u32
     ensures memory { result ≡ 1 → held handle.new ≡ held handle.old }
     ensures none { result ≡ 2 → NoneHold (held handle.old) (held handle.new) }
-    ensures answered { result ≢ 1 → result ≢ 2 → BothHold (Answers (command.Do subject (verb.Insert (number_value index) (number_value (signed negative magnitude)))) result) (held handle.old) (held handle.new) }
+    ensures answered { Asks subject (verb.Insert (number_value index) (word_value negative magnitude)) result handle.old handle.new }
 {
     ask_unowned(
         handle,
@@ -133,7 +130,7 @@ pub extern "C" fn pybuf_proved_pop(
 ) -> u32
     ensures memory { result ≡ 1 → held handle.new ≡ held handle.old }
     ensures none { result ≡ 2 → NoneHold (held handle.old) (held handle.new) }
-    ensures answered { result ≢ 1 → result ≢ 2 → BothHold (Answers (command.Do subject (verb.Pop (Some (number_value index)))) result) (held handle.old) (held handle.new) }
+    ensures answered { Asks subject (verb.Pop (Some (number_value index))) result handle.old handle.new }
 {
     ask_unowned(
         handle,
@@ -157,7 +154,7 @@ pub extern "C" fn pybuf_proved_pop_last(
 ) -> u32
     ensures memory { result ≡ 1 → held handle.new ≡ held handle.old }
     ensures none { result ≡ 2 → NoneHold (held handle.old) (held handle.new) }
-    ensures answered { result ≢ 1 → result ≢ 2 → BothHold (Answers (command.Do subject (verb.Pop None)) result) (held handle.old) (held handle.new) }
+    ensures answered { Asks subject (verb.Pop None) result handle.old handle.new }
 {
     ask_unowned(
         handle,
@@ -181,7 +178,7 @@ pub extern "C" fn pybuf_proved_remove(
 ) -> u32
     ensures memory { result ≡ 1 → held handle.new ≡ held handle.old }
     ensures none { result ≡ 2 → NoneHold (held handle.old) (held handle.new) }
-    ensures answered { result ≢ 1 → result ≢ 2 → BothHold (Answers (command.Do subject (verb.Remove (number_value (signed negative magnitude)))) result) (held handle.old) (held handle.new) }
+    ensures answered { Asks subject (verb.Remove (word_value negative magnitude)) result handle.old handle.new }
 {
     ask_unowned(
         handle,
@@ -201,7 +198,7 @@ pub extern "C" fn pybuf_proved_remove(
 pub extern "C" fn pybuf_proved_clear(handle: &mut WorldHandle, alloc: Global, subject: u64) -> u32
     ensures memory { result ≡ 1 → held handle.new ≡ held handle.old }
     ensures none { result ≡ 2 → NoneHold (held handle.old) (held handle.new) }
-    ensures answered { result ≢ 1 → result ≢ 2 → BothHold (Answers (command.Do subject verb.Clear) result) (held handle.old) (held handle.new) }
+    ensures answered { Asks subject verb.Clear result handle.old handle.new }
 {
     ask_unowned(
         handle,
@@ -219,7 +216,7 @@ pub extern "C" fn pybuf_proved_clear(handle: &mut WorldHandle, alloc: Global, su
 pub extern "C" fn pybuf_proved_reverse(handle: &mut WorldHandle, alloc: Global, subject: u64) -> u32
     ensures memory { result ≡ 1 → held handle.new ≡ held handle.old }
     ensures none { result ≡ 2 → NoneHold (held handle.old) (held handle.new) }
-    ensures answered { result ≢ 1 → result ≢ 2 → BothHold (Answers (command.Do subject verb.Reverse) result) (held handle.old) (held handle.new) }
+    ensures answered { Asks subject verb.Reverse result handle.old handle.new }
 {
     ask_unowned(
         handle,
@@ -242,7 +239,7 @@ pub extern "C" fn pybuf_proved_delete(
 ) -> u32
     ensures memory { result ≡ 1 → held handle.new ≡ held handle.old }
     ensures none { result ≡ 2 → NoneHold (held handle.old) (held handle.new) }
-    ensures answered { result ≢ 1 → result ≢ 2 → BothHold (Answers (command.Do subject (verb.Del (number_value index))) result) (held handle.old) (held handle.new) }
+    ensures answered { Asks subject (verb.Del (number_value index)) result handle.old handle.new }
 {
     ask_unowned(
         handle,
@@ -267,7 +264,7 @@ pub extern "C" fn pybuf_proved_delete_slice(
 ) -> u32
     ensures memory { result ≡ 1 → held handle.new ≡ held handle.old }
     ensures none { result ≡ 2 → NoneHold (held handle.old) (held handle.new) }
-    ensures answered { result ≢ 1 → result ≢ 2 → BothHold (Answers (command.Do subject (verb.Del (value.Slice (slice_of words.now)))) result) (held handle.old) (held handle.new) }
+    ensures answered { Asks subject (verb.Del (slice_value words.now)) result handle.old handle.new }
 {
     ask_unowned(
         handle,
@@ -292,7 +289,7 @@ pub extern "C" fn pybuf_proved_repeat(
 ) -> u32
     ensures memory { result ≡ 1 → held handle.new ≡ held handle.old }
     ensures none { result ≡ 2 → NoneHold (held handle.old) (held handle.new) }
-    ensures answered { result ≢ 1 → result ≢ 2 → BothHold (Answers (command.Do subject (verb.IMul (number_value count))) result) (held handle.old) (held handle.new) }
+    ensures answered { Asks subject (verb.IMul (number_value count)) result handle.old handle.new }
 {
     ask_unowned(
         handle,
@@ -312,7 +309,7 @@ pub extern "C" fn pybuf_proved_repeat(
 pub extern "C" fn pybuf_proved_copy(handle: &mut WorldHandle, alloc: Global, subject: u64) -> u32
     ensures memory { result ≡ 1 → held handle.new ≡ held handle.old }
     ensures none { result ≡ 2 → NoneHold (held handle.old) (held handle.new) }
-    ensures answered { result ≢ 1 → result ≢ 2 → BothHold (Answers (command.Do subject verb.Copy) result) (held handle.old) (held handle.new) }
+    ensures answered { Asks subject verb.Copy result handle.old handle.new }
 {
     ask_unowned(
         handle,
@@ -330,7 +327,7 @@ pub extern "C" fn pybuf_proved_copy(handle: &mut WorldHandle, alloc: Global, sub
 pub extern "C" fn pybuf_proved_take(handle: &mut WorldHandle, alloc: Global, subject: u64) -> u32
     ensures memory { result ≡ 1 → held handle.new ≡ held handle.old }
     ensures none { result ≡ 2 → NoneHold (held handle.old) (held handle.new) }
-    ensures answered { result ≢ 1 → result ≢ 2 → BothHold (Answers (command.Do subject verb.Take) result) (held handle.old) (held handle.new) }
+    ensures answered { Asks subject verb.Take result handle.old handle.new }
 {
     ask_unowned(
         handle,

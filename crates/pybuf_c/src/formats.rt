@@ -1,17 +1,15 @@
 //! Formats: one that a text spells, its size, values that it packs, and values that it unpacks.
-ghost use Rattle.std.specs.Prelude.{◌≡◌, ◌≢◌, ◌↔◌, length, slice_get, Some, None, Ok, IfSome, IsSomeAnd};
+ghost use Rattle.std.specs.Prelude.{◌≡◌, ◌≢◌, ◌↔◌, length, None, Ok, IfSome, IsSomeAnd};
 ghost use Rattle.pybuf_value.specs.declared.values.Scalar.TheVariants as scalar;
 ghost use Rattle.pybuf_struct.specs.Formats.{fields};
-ghost use Rattle.pybuf_struct.specs.Offsets.{packed_at};
-ghost use Rattle.pybuf_struct.specs.Values.{unpacked_values};
-ghost use Rattle.pybuf_crossing.specs.Rooms.{Hands};
-ghost use Rattle.pybuf_crossing.specs.Words.{signed, IsNoWord};
+ghost use Rattle.pybuf_crossing.specs.Words.{IsNoWord};
 ghost use Rattle.pybuf_crossing.specs.declared.rooms.Handed.TheVariants as handed;
 ghost use Rattle.pybuf_packer.specs.Held.{held};
-ghost use Rattle.pybuf_packer.specs.Packer.{packer_of, without_values, with_value, Packs, HasUnpacked, value_kind, value_number, value_bytes};
+ghost use Rattle.pybuf_packer.specs.Packer.{packer_of, without_values, Packs, HasUnpacked, value_kind, value_number};
 ghost use Rattle.pybuf_packer.specs.declared.packer.Packed.TheVariants as packed;
 ghost use Rattle.pybuf_c.specs.Holding.{BothHold, NoneHold};
 ghost use Rattle.pybuf_c.specs.Status.{result_number};
+ghost use Rattle.pybuf_c.specs.Packers.{Becomes, Gains, GainsWord, RefusesToPack, RefusesToUnpack, OfValue, ValueIsWord, HandsValue};
 
 use crate::status::{NO_FORMAT, NO_MEMORY, NOTHING, OK, TOO_SMALL, fault_number, handed_number};
 use pybuf_crossing::{signed, word_of};
@@ -83,7 +81,7 @@ pub extern "C" fn pybuf_proved_format_layout(
 #[unsafe(no_mangle)]
 pub extern "C" fn pybuf_proved_format_clear(handle: &mut FormatHandle, alloc: Global) -> u32
     ensures none { result ≡ 9 → NoneHold (held handle.old) (held handle.new) }
-    ensures ok { result ≢ 9 → (result ≡ 0) × BothHold (λ old new. new ≡ without_values old) (held handle.old) (held handle.new) }
+    ensures ok { result ≢ 9 → (result ≡ 0) × Becomes without_values handle.old handle.new }
 {
     let Some(mut packer) = handle.take(alloc) else {
         return NO_FORMAT;
@@ -104,7 +102,7 @@ pub extern "C" fn pybuf_proved_format_put_number(
 ) -> u32
     ensures memory { result ≡ 1 → held handle.new ≡ held handle.old }
     ensures none { result ≡ 9 → NoneHold (held handle.old) (held handle.new) }
-    ensures ok { result ≢ 1 → result ≢ 9 → (result ≡ 0) × BothHold (λ old new. new ≡ with_value old (scalar.Int (signed negative magnitude))) (held handle.old) (held handle.new) }
+    ensures ok { result ≢ 1 → result ≢ 9 → (result ≡ 0) × GainsWord negative magnitude handle.old handle.new }
 {
     let Some(mut packer) = handle.take(alloc) else {
         return NO_FORMAT;
@@ -127,7 +125,7 @@ pub extern "C" fn pybuf_proved_format_put_bytes(
 ) -> u32
     ensures memory { result ≡ 1 → held handle.new ≡ held handle.old }
     ensures none { result ≡ 9 → NoneHold (held handle.old) (held handle.new) }
-    ensures ok { result ≢ 1 → result ≢ 9 → (result ≡ 0) × BothHold (λ old new. new ≡ with_value old (scalar.Bytes bytes.now)) (held handle.old) (held handle.new) }
+    ensures ok { result ≢ 1 → result ≢ 9 → (result ≡ 0) × Gains (scalar.Bytes bytes.now) handle.old handle.new }
 {
     let Some(mut packer) = handle.take(alloc) else {
         return NO_FORMAT;
@@ -154,7 +152,7 @@ pub extern "C" fn pybuf_proved_format_pack(
     ensures none { (result ≡ 9) ↔ (held handle.old ≡ None) }
     ensures whole { result ≡ 0 → IsSomeAnd (held handle.old) (λ packer. Packs packed.Whole packer room.old room.new) }
     ensures small { result ≡ 3 → IsSomeAnd (held handle.old) (λ packer. Packs packed.TooSmall packer room.old room.new) }
-    ensures refused { result ≢ 0 → result ≢ 3 → result ≢ 9 → IsSomeAnd (held handle.old) (λ packer. result ≡ result_number (packed_at packer.format packer.values 0 room.old)) }
+    ensures refused { result ≢ 0 → result ≢ 3 → result ≢ 9 → RefusesToPack result room.old handle.old }
     ensures left { result ≢ 0 → room.new ≡ room.old }
     ensures counted { IfSome (held handle.old) (λ packer. count.new ≡ packer.format.size) }
 {
@@ -183,7 +181,7 @@ pub extern "C" fn pybuf_proved_format_unpack(
     ensures ok { result ≡ 0 → BothHold (HasUnpacked bytes.now) (held handle.old) (held handle.new) }
     ensures none { (result ≡ 9) ↔ (held handle.old ≡ None) }
     ensures kept { result ≢ 0 → held handle.new ≡ held handle.old }
-    ensures refused { result ≢ 0 → result ≢ 1 → result ≢ 9 → IsSomeAnd (held handle.old) (λ packer. result ≡ result_number (unpacked_values packer.format bytes.now)) }
+    ensures refused { result ≢ 0 → result ≢ 1 → result ≢ 9 → RefusesToUnpack result bytes.now handle.old }
 {
     let Some(mut packer) = handle.take(alloc) else {
         return NO_FORMAT;
@@ -211,9 +209,9 @@ pub extern "C" fn pybuf_proved_format_value(
 ) -> u32
     ensures kept { held handle.new ≡ held handle.old }
     ensures none { (result ≡ 9) ↔ (held handle.old ≡ None) }
-    ensures kind { result ≡ 0 → IsSomeAnd (held handle.old) (λ packer. kind.new ≡ value_kind (slice_get packer.values index)) }
-    ensures number { result ≡ 0 → IsSomeAnd (held handle.old) (λ packer. value_number (slice_get packer.values index) ≡ Some (signed negative.new magnitude.new)) }
-    ensures nothing { result ≡ 5 → IsSomeAnd (held handle.old) (λ packer. IsNoWord (value_number (slice_get packer.values index))) }
+    ensures kind { result ≡ 0 → OfValue index (λ value. kind.new ≡ value_kind value) handle.old }
+    ensures number { result ≡ 0 → ValueIsWord index negative.new magnitude.new handle.old }
+    ensures nothing { result ≡ 5 → OfValue index (λ value. IsNoWord (value_number value)) handle.old }
     ensures status { result ≢ 0 → result ≢ 9 → result ≡ 5 }
 {
     let Some(packer) = handle.take(alloc) else {
@@ -245,9 +243,9 @@ pub extern "C" fn pybuf_proved_format_value_bytes(
 ) -> u32
     ensures kept { held handle.new ≡ held handle.old }
     ensures none { (result ≡ 9) ↔ (held handle.old ≡ None) }
-    ensures whole { result ≡ 0 → IsSomeAnd (held handle.old) (λ packer. Hands handed.Whole (value_bytes (slice_get packer.values index)) room.old room.new count.old count.new) }
-    ensures small { result ≡ 3 → IsSomeAnd (held handle.old) (λ packer. Hands handed.TooSmall (value_bytes (slice_get packer.values index)) room.old room.new count.old count.new) }
-    ensures nothing { result ≡ 5 → IsSomeAnd (held handle.old) (λ packer. Hands handed.Nothing (value_bytes (slice_get packer.values index)) room.old room.new count.old count.new) }
+    ensures whole { result ≡ 0 → HandsValue handed.Whole index handle.old room.old room.new count.old count.new }
+    ensures small { result ≡ 3 → HandsValue handed.TooSmall index handle.old room.old room.new count.old count.new }
+    ensures nothing { result ≡ 5 → HandsValue handed.Nothing index handle.old room.old room.new count.old count.new }
     ensures status { result ≢ 0 → result ≢ 3 → result ≢ 5 → result ≡ 9 }
 {
     let Some(packer) = handle.take(alloc) else {

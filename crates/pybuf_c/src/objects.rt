@@ -1,20 +1,13 @@
 //! Commands for the objects of a world, by numbers and bytes.
-ghost use Rattle.std.specs.Prelude.{◌≡◌, ◌≢◌, ◌↔◌, ◌<◌, Some, None, IsSomeAnd};
+ghost use Rattle.std.specs.Prelude.{◌≡◌, ◌≢◌, ◌↔◌, ◌<◌, Some, None};
 ghost use Rattle.pybuf_command.specs.declared.commands.Verb.TheVariants as verb;
-ghost use Rattle.pybuf_command.specs.declared.worlds.Command.TheVariants as command;
-ghost use Rattle.pybuf_value.specs.declared.values.Value.TheVariants as value;
 ghost use Rattle.pybuf_console.specs.Held.{held};
-ghost use Rattle.pybuf_console.specs.Values.{bytes_value, number_value, object_value, slice_of, source_of, text_value, tuple_of};
+ghost use Rattle.pybuf_console.specs.Values.{bytes_value, number_value, object_value, text_value, tuple_of};
 ghost use Rattle.pybuf_crossing.specs.Words.{signed, IsNoWord};
-ghost use Rattle.pybuf_c.specs.Holding.{BothHold, NoneHold};
-ghost use Rattle.pybuf_console.specs.Console.{HasAsked};
+ghost use Rattle.pybuf_c.specs.Holding.{NoneHold};
 ghost use Rattle.pybuf_console.specs.Replies as replies;
-ghost use Rattle.pybuf_c.specs.Worlds.{Answers, HasNoNumber, IsRefusedBy};
+ghost use Rattle.pybuf_c.specs.Worlds.{HasNoNumber, IsRefusedBy, Asks, AsksKnown, MakesExporter, AsksProperty, AsksComparison, HasGot, word_value, slice_value, OfLast, LastIsWord};
 ghost use Rattle.std.specs.Str.{IsUtf8};
-ghost use Rattle.pybuf_command.specs.declared.kinds.ExporterKind.{ExporterKind};
-ghost use Rattle.pybuf_command.specs.declared.commands.PropertyName.{PropertyName};
-ghost use Rattle.pybuf_value.specs.declared.values.CompareOp.{CompareOp};
-ghost use Rattle.pybuf_c.specs.Numbers.{kind_number, operator_number, property_number};
 
 use crate::asking::{ask, ask_unowned};
 use crate::numbers::{kind_numbered, operator_numbered, property_numbered};
@@ -43,7 +36,7 @@ pub extern "C" fn pybuf_proved_new(
     ensures none { result ≡ 2 → NoneHold (held handle.old) (held handle.new) }
     ensures bad { (result ≡ 6) ↔ (3 < kind) }
     ensures bad_kept { result ≡ 6 → held handle.new ≡ held handle.old }
-    ensures answered { result ≢ 1 → result ≢ 2 → result ≢ 6 → (made : ExporterKind) → kind_number made ≡ kind → BothHold (Answers (command.New made (source_of bytes.now)) result) (held handle.old) (held handle.new) }
+    ensures answered { MakesExporter kind bytes.now result handle.old handle.new }
 {
     let Some(kind) = kind_numbered(kind) else {
         return BAD_ARGUMENT;
@@ -60,7 +53,7 @@ pub extern "C" fn pybuf_proved_new(
 pub extern "C" fn pybuf_proved_view(handle: &mut WorldHandle, alloc: Global, subject: u64) -> u32
     ensures memory { result ≡ 1 → held handle.new ≡ held handle.old }
     ensures none { result ≡ 2 → NoneHold (held handle.old) (held handle.new) }
-    ensures answered { result ≢ 1 → result ≢ 2 → BothHold (Answers (command.Do subject verb.View) result) (held handle.old) (held handle.new) }
+    ensures answered { Asks subject verb.View result handle.old handle.new }
 {
     ask_unowned(
         handle,
@@ -82,7 +75,7 @@ pub extern "C" fn pybuf_proved_to_readonly(
 ) -> u32
     ensures memory { result ≡ 1 → held handle.new ≡ held handle.old }
     ensures none { result ≡ 2 → NoneHold (held handle.old) (held handle.new) }
-    ensures answered { result ≢ 1 → result ≢ 2 → BothHold (Answers (command.Do subject verb.ToReadonly) result) (held handle.old) (held handle.new) }
+    ensures answered { Asks subject verb.ToReadonly result handle.old handle.new }
 {
     ask_unowned(
         handle,
@@ -104,7 +97,7 @@ pub extern "C" fn pybuf_proved_to_contiguous(
 ) -> u32
     ensures memory { result ≡ 1 → held handle.new ≡ held handle.old }
     ensures none { result ≡ 2 → NoneHold (held handle.old) (held handle.new) }
-    ensures answered { result ≢ 1 → result ≢ 2 → BothHold (Answers (command.Do subject verb.ToContiguous) result) (held handle.old) (held handle.new) }
+    ensures answered { Asks subject verb.ToContiguous result handle.old handle.new }
 {
     ask_unowned(
         handle,
@@ -130,7 +123,7 @@ pub extern "C" fn pybuf_proved_cast(
     ensures none { result ≡ 2 → NoneHold (held handle.old) (held handle.new) }
     ensures bad { result ≡ 6 → IsUtf8 format.now → ⊥ }
     ensures bad_kept { result ≡ 6 → held handle.new ≡ held handle.old }
-    ensures answered { result ≢ 1 → result ≢ 2 → result ≢ 6 → BothHold (Answers (command.Do subject (verb.Cast (text_value format.now) None)) result) (held handle.old) (held handle.new) }
+    ensures answered { AsksKnown subject (verb.Cast (text_value format.now) None) result handle.old handle.new }
 {
     match text_value(alloc, format) {
         Ok(Some(format)) => ask(
@@ -164,7 +157,7 @@ pub extern "C" fn pybuf_proved_cast_to_shape(
     ensures none { result ≡ 2 → NoneHold (held handle.old) (held handle.new) }
     ensures bad { result ≡ 6 → IsUtf8 format.now → ⊥ }
     ensures bad_kept { result ≡ 6 → held handle.new ≡ held handle.old }
-    ensures answered { result ≢ 1 → result ≢ 2 → result ≢ 6 → BothHold (Answers (command.Do subject (verb.Cast (text_value format.now) (Some (tuple_of shape.now)))) result) (held handle.old) (held handle.new) }
+    ensures answered { AsksKnown subject (verb.Cast (text_value format.now) (Some (tuple_of shape.now))) result handle.old handle.new }
 {
     let Ok(shape) = tuple_of(alloc, shape) else {
         return NO_MEMORY;
@@ -197,7 +190,7 @@ pub extern "C" fn pybuf_proved_get(
 ) -> u32
     ensures memory { result ≡ 1 → held handle.new ≡ held handle.old }
     ensures none { result ≡ 2 → NoneHold (held handle.old) (held handle.new) }
-    ensures answered { result ≢ 1 → result ≢ 2 → BothHold (Answers (command.Do subject (verb.Get (number_value index))) result) (held handle.old) (held handle.new) }
+    ensures answered { Asks subject (verb.Get (number_value index)) result handle.old handle.new }
 {
     ask_unowned(
         handle,
@@ -261,10 +254,10 @@ pub extern "C" fn pybuf_proved_get_number(
 ) -> u32
     ensures memory { result ≡ 1 → held handle.new ≡ held handle.old }
     ensures none { result ≡ 2 → NoneHold (held handle.old) (held handle.new) }
-    ensures asked { result ≢ 1 → result ≢ 2 → BothHold (HasAsked (command.Do subject (verb.Get (number_value index)))) (held handle.old) (held handle.new) }
-    ensures ok { result ≡ 0 → IsSomeAnd (held handle.new) (λ console. replies.number_of console.last ≡ Some (signed negative.new magnitude.new)) }
-    ensures nothing { result ≡ 5 → IsSomeAnd (held handle.new) (λ console. HasNoNumber console.last) }
-    ensures refused { result ≢ 0 → result ≢ 1 → result ≢ 2 → result ≢ 5 → IsSomeAnd (held handle.new) (λ console. IsRefusedBy result console.last) }
+    ensures asked { HasGot subject (number_value index) result handle.old handle.new }
+    ensures ok { result ≡ 0 → LastIsWord negative.new magnitude.new handle.new }
+    ensures nothing { result ≡ 5 → OfLast HasNoNumber handle.new }
+    ensures refused { result ≢ 0 → result ≢ 1 → result ≢ 2 → result ≢ 5 → OfLast (IsRefusedBy result) handle.new }
 {
     let Some(mut console) = handle.take(alloc) else {
         return NO_WORLD;
@@ -296,7 +289,7 @@ pub extern "C" fn pybuf_proved_get_at(
 ) -> u32
     ensures memory { result ≡ 1 → held handle.new ≡ held handle.old }
     ensures none { result ≡ 2 → NoneHold (held handle.old) (held handle.new) }
-    ensures answered { result ≢ 1 → result ≢ 2 → BothHold (Answers (command.Do subject (verb.Get (tuple_of indices.now))) result) (held handle.old) (held handle.new) }
+    ensures answered { Asks subject (verb.Get (tuple_of indices.now)) result handle.old handle.new }
 {
     match tuple_of(alloc, indices) {
         Ok(key) => ask(
@@ -323,7 +316,7 @@ pub extern "C" fn pybuf_proved_get_slice(
 ) -> u32
     ensures memory { result ≡ 1 → held handle.new ≡ held handle.old }
     ensures none { result ≡ 2 → NoneHold (held handle.old) (held handle.new) }
-    ensures answered { result ≢ 1 → result ≢ 2 → BothHold (Answers (command.Do subject (verb.Get (value.Slice (slice_of words.now)))) result) (held handle.old) (held handle.new) }
+    ensures answered { Asks subject (verb.Get (slice_value words.now)) result handle.old handle.new }
 {
     ask_unowned(
         handle,
@@ -350,7 +343,7 @@ pub extern "C" fn pybuf_proved_set(
 ) -> u32
     ensures memory { result ≡ 1 → held handle.new ≡ held handle.old }
     ensures none { result ≡ 2 → NoneHold (held handle.old) (held handle.new) }
-    ensures answered { result ≢ 1 → result ≢ 2 → BothHold (Answers (command.Do subject (verb.Set (number_value index) (number_value (signed negative magnitude)))) result) (held handle.old) (held handle.new) }
+    ensures answered { Asks subject (verb.Set (number_value index) (word_value negative magnitude)) result handle.old handle.new }
 {
     ask_unowned(
         handle,
@@ -378,7 +371,7 @@ pub extern "C" fn pybuf_proved_set_at(
 ) -> u32
     ensures memory { result ≡ 1 → held handle.new ≡ held handle.old }
     ensures none { result ≡ 2 → NoneHold (held handle.old) (held handle.new) }
-    ensures answered { result ≢ 1 → result ≢ 2 → BothHold (Answers (command.Do subject (verb.Set (tuple_of indices.now) (number_value (signed negative magnitude)))) result) (held handle.old) (held handle.new) }
+    ensures answered { Asks subject (verb.Set (tuple_of indices.now) (word_value negative magnitude)) result handle.old handle.new }
 {
     match tuple_of(alloc, indices) {
         Ok(key) => ask(
@@ -408,7 +401,7 @@ pub extern "C" fn pybuf_proved_set_slice(
 ) -> u32
     ensures memory { result ≡ 1 → held handle.new ≡ held handle.old }
     ensures none { result ≡ 2 → NoneHold (held handle.old) (held handle.new) }
-    ensures answered { result ≢ 1 → result ≢ 2 → BothHold (Answers (command.Do subject (verb.Set (value.Slice (slice_of words.now)) (bytes_value bytes.now))) result) (held handle.old) (held handle.new) }
+    ensures answered { Asks subject (verb.Set (slice_value words.now) (bytes_value bytes.now)) result handle.old handle.new }
 {
     match bytes_value(alloc, bytes) {
         Ok(value) => ask(
@@ -438,7 +431,7 @@ pub extern "C" fn pybuf_proved_set_slice_of(
 ) -> u32
     ensures memory { result ≡ 1 → held handle.new ≡ held handle.old }
     ensures none { result ≡ 2 → NoneHold (held handle.old) (held handle.new) }
-    ensures answered { result ≢ 1 → result ≢ 2 → BothHold (Answers (command.Do subject (verb.Set (value.Slice (slice_of words.now)) (object_value other))) result) (held handle.old) (held handle.new) }
+    ensures answered { Asks subject (verb.Set (slice_value words.now) (object_value other)) result handle.old handle.new }
 {
     ask_unowned(
         handle,
@@ -459,7 +452,7 @@ pub extern "C" fn pybuf_proved_set_slice_of(
 pub extern "C" fn pybuf_proved_release(handle: &mut WorldHandle, alloc: Global, subject: u64) -> u32
     ensures memory { result ≡ 1 → held handle.new ≡ held handle.old }
     ensures none { result ≡ 2 → NoneHold (held handle.old) (held handle.new) }
-    ensures answered { result ≢ 1 → result ≢ 2 → BothHold (Answers (command.Do subject verb.Release) result) (held handle.old) (held handle.new) }
+    ensures answered { Asks subject verb.Release result handle.old handle.new }
 {
     ask_unowned(
         handle,
@@ -477,7 +470,7 @@ pub extern "C" fn pybuf_proved_release(handle: &mut WorldHandle, alloc: Global, 
 pub extern "C" fn pybuf_proved_length(handle: &mut WorldHandle, alloc: Global, subject: u64) -> u32
     ensures memory { result ≡ 1 → held handle.new ≡ held handle.old }
     ensures none { result ≡ 2 → NoneHold (held handle.old) (held handle.new) }
-    ensures answered { result ≢ 1 → result ≢ 2 → BothHold (Answers (command.Do subject verb.Len) result) (held handle.old) (held handle.new) }
+    ensures answered { Asks subject verb.Len result handle.old handle.new }
 {
     ask_unowned(
         handle,
@@ -495,7 +488,7 @@ pub extern "C" fn pybuf_proved_length(handle: &mut WorldHandle, alloc: Global, s
 pub extern "C" fn pybuf_proved_bytes(handle: &mut WorldHandle, alloc: Global, subject: u64) -> u32
     ensures memory { result ≡ 1 → held handle.new ≡ held handle.old }
     ensures none { result ≡ 2 → NoneHold (held handle.old) (held handle.new) }
-    ensures answered { result ≢ 1 → result ≢ 2 → BothHold (Answers (command.Do subject (verb.ToBytes None)) result) (held handle.old) (held handle.new) }
+    ensures answered { Asks subject (verb.ToBytes None) result handle.old handle.new }
 {
     ask_unowned(
         handle,
@@ -513,7 +506,7 @@ pub extern "C" fn pybuf_proved_bytes(handle: &mut WorldHandle, alloc: Global, su
 pub extern "C" fn pybuf_proved_items(handle: &mut WorldHandle, alloc: Global, subject: u64) -> u32
     ensures memory { result ≡ 1 → held handle.new ≡ held handle.old }
     ensures none { result ≡ 2 → NoneHold (held handle.old) (held handle.new) }
-    ensures answered { result ≢ 1 → result ≢ 2 → BothHold (Answers (command.Do subject verb.ToList) result) (held handle.old) (held handle.new) }
+    ensures answered { Asks subject verb.ToList result handle.old handle.new }
 {
     ask_unowned(
         handle,
@@ -538,7 +531,7 @@ pub extern "C" fn pybuf_proved_property(
     ensures none { result ≡ 2 → NoneHold (held handle.old) (held handle.new) }
     ensures bad { (result ≡ 6) ↔ (12 < name) }
     ensures bad_kept { result ≡ 6 → held handle.new ≡ held handle.old }
-    ensures answered { result ≢ 1 → result ≢ 2 → result ≢ 6 → (asked : PropertyName) → property_number asked ≡ name → BothHold (Answers (command.Do subject (verb.Property asked)) result) (held handle.old) (held handle.new) }
+    ensures answered { AsksProperty subject name result handle.old handle.new }
 {
     match property_numbered(name) {
         Some(name) => ask_unowned(
@@ -568,7 +561,7 @@ pub extern "C" fn pybuf_proved_compare(
     ensures none { result ≡ 2 → NoneHold (held handle.old) (held handle.new) }
     ensures bad { (result ≡ 6) ↔ (5 < operator) }
     ensures bad_kept { result ≡ 6 → held handle.new ≡ held handle.old }
-    ensures answered { result ≢ 1 → result ≢ 2 → result ≢ 6 → (op : CompareOp) → operator_number op ≡ operator → BothHold (Answers (command.Do subject (verb.Compare op (bytes_value bytes.now))) result) (held handle.old) (held handle.new) }
+    ensures answered { AsksComparison subject operator (bytes_value bytes.now) result handle.old handle.new }
 {
     let Some(op) = operator_numbered(operator) else {
         return BAD_ARGUMENT;
@@ -601,7 +594,7 @@ pub extern "C" fn pybuf_proved_compare_with(
     ensures none { result ≡ 2 → NoneHold (held handle.old) (held handle.new) }
     ensures bad { (result ≡ 6) ↔ (5 < operator) }
     ensures bad_kept { result ≡ 6 → held handle.new ≡ held handle.old }
-    ensures answered { result ≢ 1 → result ≢ 2 → result ≢ 6 → (op : CompareOp) → operator_number op ≡ operator → BothHold (Answers (command.Do subject (verb.Compare op (object_value other))) result) (held handle.old) (held handle.new) }
+    ensures answered { AsksComparison subject operator (object_value other) result handle.old handle.new }
 {
     match operator_numbered(operator) {
         Some(op) => ask_unowned(
@@ -630,7 +623,7 @@ pub extern "C" fn pybuf_proved_contains(
 ) -> u32
     ensures memory { result ≡ 1 → held handle.new ≡ held handle.old }
     ensures none { result ≡ 2 → NoneHold (held handle.old) (held handle.new) }
-    ensures answered { result ≢ 1 → result ≢ 2 → BothHold (Answers (command.Do subject (verb.Contains (bytes_value bytes.now))) result) (held handle.old) (held handle.new) }
+    ensures answered { Asks subject (verb.Contains (bytes_value bytes.now)) result handle.old handle.new }
 {
     match bytes_value(alloc, bytes) {
         Ok(value) => ask(
@@ -658,7 +651,7 @@ pub extern "C" fn pybuf_proved_contains_byte(
 ) -> u32
     ensures memory { result ≡ 1 → held handle.new ≡ held handle.old }
     ensures none { result ≡ 2 → NoneHold (held handle.old) (held handle.new) }
-    ensures answered { result ≢ 1 → result ≢ 2 → BothHold (Answers (command.Do subject (verb.Contains (number_value (signed negative magnitude)))) result) (held handle.old) (held handle.new) }
+    ensures answered { Asks subject (verb.Contains (word_value negative magnitude)) result handle.old handle.new }
 {
     ask_unowned(
         handle,
@@ -678,7 +671,7 @@ pub extern "C" fn pybuf_proved_contains_byte(
 pub extern "C" fn pybuf_proved_iterate(handle: &mut WorldHandle, alloc: Global, subject: u64) -> u32
     ensures memory { result ≡ 1 → held handle.new ≡ held handle.old }
     ensures none { result ≡ 2 → NoneHold (held handle.old) (held handle.new) }
-    ensures answered { result ≢ 1 → result ≢ 2 → BothHold (Answers (command.Do subject verb.Iter) result) (held handle.old) (held handle.new) }
+    ensures answered { Asks subject verb.Iter result handle.old handle.new }
 {
     ask_unowned(
         handle,
@@ -696,7 +689,7 @@ pub extern "C" fn pybuf_proved_iterate(handle: &mut WorldHandle, alloc: Global, 
 pub extern "C" fn pybuf_proved_next(handle: &mut WorldHandle, alloc: Global, subject: u64) -> u32
     ensures memory { result ≡ 1 → held handle.new ≡ held handle.old }
     ensures none { result ≡ 2 → NoneHold (held handle.old) (held handle.new) }
-    ensures answered { result ≢ 1 → result ≢ 2 → BothHold (Answers (command.Do subject verb.Next) result) (held handle.old) (held handle.new) }
+    ensures answered { Asks subject verb.Next result handle.old handle.new }
 {
     ask_unowned(
         handle,
@@ -714,7 +707,7 @@ pub extern "C" fn pybuf_proved_next(handle: &mut WorldHandle, alloc: Global, sub
 pub extern "C" fn pybuf_proved_shown(handle: &mut WorldHandle, alloc: Global, subject: u64) -> u32
     ensures memory { result ≡ 1 → held handle.new ≡ held handle.old }
     ensures none { result ≡ 2 → NoneHold (held handle.old) (held handle.new) }
-    ensures answered { result ≢ 1 → result ≢ 2 → BothHold (Answers (command.Do subject verb.Repr) result) (held handle.old) (held handle.new) }
+    ensures answered { Asks subject verb.Repr result handle.old handle.new }
 {
     ask_unowned(
         handle,

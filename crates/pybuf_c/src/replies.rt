@@ -1,10 +1,10 @@
 //! What the last reply of a world tells, by its kind.
-ghost use Rattle.std.specs.Prelude.{◌≡◌, ◌≢◌, ◌≤◌, ◌↔◌, Some, None, IsSomeAnd};
+ghost use Rattle.std.specs.Prelude.{◌≡◌, ◌≢◌, ◌≤◌, ◌↔◌, Some, None};
 ghost use Rattle.pybuf_console.specs.Held.{held};
 ghost use Rattle.pybuf_console.specs.Replies as replies;
-ghost use Rattle.pybuf_crossing.specs.Rooms.{Hands};
-ghost use Rattle.pybuf_crossing.specs.Words.{signed, IsNoWord};
+ghost use Rattle.pybuf_crossing.specs.Words.{IsNoWord};
 ghost use Rattle.pybuf_crossing.specs.declared.rooms.Handed.TheVariants as handed;
+ghost use Rattle.pybuf_c.specs.Worlds.{OfLast, LastIsWord, PartIsWord, HandsLast};
 
 use crate::status::{NO_WORLD, NOTHING, OK, handed_number};
 use pybuf_console::{WorldHandle, kind_of, number_of, objects_of, part_at, part_count};
@@ -21,7 +21,7 @@ pub extern "C" fn pybuf_proved_last_kind(
 ) -> u32
     ensures kept { held handle.new ≡ held handle.old }
     ensures none { (result ≡ 2) ↔ (held handle.old ≡ None) }
-    ensures ok { result ≢ 2 → (result ≡ 0) × IsSomeAnd (held handle.old) (λ console. kind.new ≡ replies.kind_of console.last) }
+    ensures ok { result ≢ 2 → (result ≡ 0) × OfLast (λ reply. kind.new ≡ replies.kind_of reply) handle.old }
 {
     let Some(console) = handle.take(alloc) else {
         return NO_WORLD;
@@ -43,8 +43,8 @@ pub extern "C" fn pybuf_proved_last_objects(
 ) -> u32
     ensures kept { held handle.new ≡ held handle.old }
     ensures none { (result ≡ 2) ↔ (held handle.old ≡ None) }
-    ensures ok { result ≡ 0 → IsSomeAnd (held handle.old) (λ console. replies.objects_of console.last ≡ Some (exporter.new, view.new)) }
-    ensures nothing { result ≡ 5 → IsSomeAnd (held handle.old) (λ console. replies.objects_of console.last ≡ None) }
+    ensures ok { result ≡ 0 → OfLast (λ reply. replies.objects_of reply ≡ Some (exporter.new, view.new)) handle.old }
+    ensures nothing { result ≡ 5 → OfLast (λ reply. replies.objects_of reply ≡ None) handle.old }
     ensures status { result ≢ 0 → result ≢ 2 → result ≡ 5 }
 {
     let Some(console) = handle.take(alloc) else {
@@ -74,8 +74,8 @@ pub extern "C" fn pybuf_proved_last_number(
 ) -> u32
     ensures kept { held handle.new ≡ held handle.old }
     ensures none { (result ≡ 2) ↔ (held handle.old ≡ None) }
-    ensures ok { result ≡ 0 → IsSomeAnd (held handle.old) (λ console. replies.number_of console.last ≡ Some (signed negative.new magnitude.new)) }
-    ensures nothing { result ≡ 5 → IsSomeAnd (held handle.old) (λ console. IsNoWord (replies.number_of console.last)) }
+    ensures ok { result ≡ 0 → LastIsWord negative.new magnitude.new handle.old }
+    ensures nothing { result ≡ 5 → OfLast (λ reply. IsNoWord (replies.number_of reply)) handle.old }
     ensures status { result ≢ 0 → result ≢ 2 → result ≡ 5 }
 {
     let Some(console) = handle.take(alloc) else {
@@ -103,7 +103,7 @@ pub extern "C" fn pybuf_proved_last_part_count(
 ) -> u32
     ensures kept { held handle.new ≡ held handle.old }
     ensures none { (result ≡ 2) ↔ (held handle.old ≡ None) }
-    ensures ok { result ≢ 2 → (result ≡ 0) × IsSomeAnd (held handle.old) (λ console. count.new ≡ replies.part_count console.last) }
+    ensures ok { result ≢ 2 → (result ≡ 0) × OfLast (λ reply. count.new ≡ replies.part_count reply) handle.old }
 {
     let Some(console) = handle.take(alloc) else {
         return NO_WORLD;
@@ -126,8 +126,8 @@ pub extern "C" fn pybuf_proved_last_part(
 ) -> u32
     ensures kept { held handle.new ≡ held handle.old }
     ensures none { (result ≡ 2) ↔ (held handle.old ≡ None) }
-    ensures ok { result ≡ 0 → IsSomeAnd (held handle.old) (λ console. replies.part_at console.last index ≡ Some (signed negative.new magnitude.new)) }
-    ensures nothing { result ≡ 5 → IsSomeAnd (held handle.old) (λ console. IsNoWord (replies.part_at console.last index)) }
+    ensures ok { result ≡ 0 → PartIsWord index negative.new magnitude.new handle.old }
+    ensures nothing { result ≡ 5 → OfLast (λ reply. IsNoWord (replies.part_at reply index)) handle.old }
     ensures status { result ≢ 0 → result ≢ 2 → result ≡ 5 }
 {
     let Some(console) = handle.take(alloc) else {
@@ -157,9 +157,9 @@ pub extern "C" fn pybuf_proved_last_bytes(
 ) -> u32
     ensures kept { held handle.new ≡ held handle.old }
     ensures none { (result ≡ 2) ↔ (held handle.old ≡ None) }
-    ensures whole { result ≡ 0 → IsSomeAnd (held handle.old) (λ console. Hands handed.Whole (replies.bytes_of console.last) room.old room.new count.old count.new) }
-    ensures small { result ≡ 3 → IsSomeAnd (held handle.old) (λ console. Hands handed.TooSmall (replies.bytes_of console.last) room.old room.new count.old count.new) }
-    ensures nothing { result ≡ 5 → IsSomeAnd (held handle.old) (λ console. Hands handed.Nothing (replies.bytes_of console.last) room.old room.new count.old count.new) }
+    ensures whole { result ≡ 0 → HandsLast handed.Whole handle.old room.old room.new count.old count.new }
+    ensures small { result ≡ 3 → HandsLast handed.TooSmall handle.old room.old room.new count.old count.new }
+    ensures nothing { result ≡ 5 → HandsLast handed.Nothing handle.old room.old room.new count.old count.new }
     ensures status { result ≤ 5 }
 {
     let Some(console) = handle.take(alloc) else {

@@ -1,12 +1,12 @@
 //! Worlds by lines: a new one, a text of lines that is run, and the replies.
-ghost use Rattle.std.specs.Prelude.{◌≡◌, ◌≢◌, ◌↔◌, ◌≤◌, ◌⊎◌, length, slice_get, Some, None, Err, IsSomeAnd, IfSome};
-ghost use Rattle.pybuf_console.specs.Console.{empty_console, HasRun, HasStopped, shown_reply};
+ghost use Rattle.std.specs.Prelude.{◌≡◌, ◌≢◌, ◌↔◌, ◌≤◌, length, Some, None, Err, IfSome};
+ghost use Rattle.pybuf_console.specs.Console.{empty_console, HasRun};
 ghost use Rattle.pybuf_console.specs.Held.{held};
-ghost use Rattle.pybuf_crossing.specs.Rooms.{Hands};
 ghost use Rattle.pybuf_crossing.specs.declared.rooms.Handed.TheVariants as handed;
 ghost use Rattle.pybuf_line.specs.Lines.{commands_in};
 ghost use Rattle.pybuf_line.specs.Scalars.{handle_in};
 ghost use Rattle.pybuf_c.specs.Holding.{BothHold};
+ghost use Rattle.pybuf_c.specs.Worlds.{MayHaveStopped, HandsReply};
 
 use crate::status::{BAD_LINE, NO_MEMORY, NO_WORLD, OK, handed_number};
 use pybuf_console::{Console, WorldHandle};
@@ -53,7 +53,7 @@ pub extern "C" fn pybuf_proved_world_run(
     line: &mut u64,
 ) -> u32
     ensures ok { result ≡ 0 → BothHold (HasRun text.now) (held handle.old) (held handle.new) }
-    ensures stopped { result ≡ 1 → BothHold (λ old new. (new ≡ old) ⊎ HasStopped text.now old new) (held handle.old) (held handle.new) }
+    ensures stopped { result ≡ 1 → BothHold (MayHaveStopped text.now) (held handle.old) (held handle.new) }
     ensures none { (result ≡ 2) ↔ (held handle.old ≡ None) }
     ensures none_made { result ≡ 2 → held handle.new ≡ None }
     ensures bad { result ≡ 4 → commands_in handle_in text.now ≡ Err line.new }
@@ -91,10 +91,10 @@ pub extern "C" fn pybuf_proved_world_reply(
 ) -> u32
     ensures kept { held handle.new ≡ held handle.old }
     ensures none { (result ≡ 2) ↔ (held handle.old ≡ None) }
-    ensures whole { result ≡ 0 → IsSomeAnd (held handle.old) (λ console. Hands handed.Whole (shown_reply (slice_get console.replies index)) room.old room.new count.old count.new) }
-    ensures memory { result ≡ 1 → IsSomeAnd (held handle.old) (λ console. Hands handed.NoMemory (shown_reply (slice_get console.replies index)) room.old room.new count.old count.new) }
-    ensures small { result ≡ 3 → IsSomeAnd (held handle.old) (λ console. Hands handed.TooSmall (shown_reply (slice_get console.replies index)) room.old room.new count.old count.new) }
-    ensures nothing { result ≡ 5 → IsSomeAnd (held handle.old) (λ console. Hands handed.Nothing (shown_reply (slice_get console.replies index)) room.old room.new count.old count.new) }
+    ensures whole { result ≡ 0 → HandsReply handed.Whole index handle.old room.old room.new count.old count.new }
+    ensures memory { result ≡ 1 → HandsReply handed.NoMemory index handle.old room.old room.new count.old count.new }
+    ensures small { result ≡ 3 → HandsReply handed.TooSmall index handle.old room.old room.new count.old count.new }
+    ensures nothing { result ≡ 5 → HandsReply handed.Nothing index handle.old room.old room.new count.old count.new }
     ensures status { result ≤ 5 }
     ensures not_bad { result ≢ 4 }
 {

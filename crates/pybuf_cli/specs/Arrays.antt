@@ -10,7 +10,7 @@ use Rattle.pybuf_line.specs.Replies.{bad_line_text}
 use Rattle.pybuf_cli.specs.declared.status.Status.{Status}
 use Rattle.pybuf_cli.specs.declared.status.Status.TheVariants as status
 use Rattle.pybuf_cli.specs.Devices.{Put}
-use Rattle.pybuf_cli.specs.Program.{most, ending_for, ReadsInput}
+use Rattle.pybuf_cli.specs.Program.{most, ending_for, ReadsInput, Ended}
 
 -- a line for each reply of an array that begins without numbers
 abbrev pub array_program : ArrayCode → List ArrayOp → List ℕ
@@ -20,6 +20,10 @@ array_program c operations = array_reply_lines (replies_of (new_array c) operati
 abbrev pub array_due_for : ArrayCode → Result (List ArrayOp) ℕ → List ℕ
 array_due_for c (Ok operations) = array_program c operations
 array_due_for c (Err n) = bad_line_text n
+
+-- so it is of the lines of an input
+abbrev pub array_due : ArrayCode → List ℕ → List ℕ
+array_due c input = array_due_for c (operations_in input)
 
 -- the text that is due for a run of an input, or no text if the input is too long
 abbrev pub array_run_text : ArrayCode → List ℕ → List ℕ
@@ -49,11 +53,15 @@ pub record IsBadLineArray (input : List ℕ) (left held_before held : Option (Li
   pub first : operations_in input ≡ Err line
   pub put : Put held_before (bad_line_text line) held
 
+-- The replies to the lines of an input were put, each of which is an operation.
+abbrev pub ArrayRepliesPut : {K : Type 0} → ArrayCode → List ℕ → (K → Option (List ℕ)) → K → K → Type 0
+ArrayRepliesPut c input bytes_held old new =
+    (operations : List ArrayOp) × (operations_in input ≡ Ok operations) × KeepsLengthWhileViewed (new_array c) operations ×
+    Put (bytes_held old) (array_program c operations) (bytes_held new)
+
 -- What the form `array` with a code promises, if the source tells its bytes.
 pub record RunsArray {S K : Type 0} (c : ArrayCode) (result : Status) (bytes_left : S → Option (List ℕ)) (bytes_held : K → Option (List ℕ))
     (source_before source : S) (sink_before sink : K) : Type 0 where
   pub reads : ReadsInput result bytes_left source_before source sink_before sink
-  pub done : result ≡ status.Done → (input : List ℕ) → bytes_left source_before ≡ Some input →
-      IsDoneArray c input (bytes_left source) (bytes_held sink_before) (bytes_held sink)
-  pub bad_line : result ≡ status.BadLine → (input : List ℕ) → bytes_left source_before ≡ Some input →
-      IsBadLineArray input (bytes_left source) (bytes_held sink_before) (bytes_held sink)
+  pub done : result ≡ status.Done → Ended (IsDoneArray c) bytes_left source_before source bytes_held sink_before sink
+  pub bad_line : result ≡ status.BadLine → Ended IsBadLineArray bytes_left source_before source bytes_held sink_before sink

@@ -7,6 +7,7 @@ pub mod Arrays
 pub mod Tables
 pub mod Nd
 pub mod Serving
+pub mod Quiet
 pub mod Running
 pub mod ArrayRunning
 pub mod Scripts

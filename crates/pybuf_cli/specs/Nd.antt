@@ -5,7 +5,7 @@ use Rattle.pybuf_nd_lines.specs.Texts.{misfit_text}
 use Rattle.pybuf_cli.specs.declared.status.Status.{Status}
 use Rattle.pybuf_cli.specs.declared.status.Status.TheVariants as status
 use Rattle.pybuf_cli.specs.Devices.{Put}
-use Rattle.pybuf_cli.specs.Program.{most, ReadsInput}
+use Rattle.pybuf_cli.specs.Program.{most, ReadsInput, Ended}
 
 -- The text that is due for bytes: those that are selected. If there are not as many bytes as the shape has, it
 -- says how many there are.
@@ -38,12 +38,19 @@ pub record IsMisfit (s : Selection) (input : List ℕ) (left held_before held : 
   pub differs : length input ≢ bytes_due s
   pub put : Put held_before (misfit_text (length input) (bytes_due s)) held
 
+-- An input has as many bytes as the shape, and those that are asked for were put.
+abbrev pub SelectionPut : {K : Type 0} → Selection → List ℕ → (K → Option (List ℕ)) → K → K → Type 0
+SelectionPut s input bytes_held old new = (length input ≡ bytes_due s) × Put (bytes_held old) (selection_text s input) (bytes_held new)
+
+-- It has more or fewer, and how many there are was put.
+abbrev pub MisfitPut : {K : Type 0} → Selection → List ℕ → (K → Option (List ℕ)) → K → K → Type 0
+MisfitPut s input bytes_held old new =
+    (length input ≢ bytes_due s) × Put (bytes_held old) (misfit_text (length input) (bytes_due s)) (bytes_held new)
+
 -- What the form `nd` promises, if the source tells its bytes. No line can be wrong here.
 pub record Selects {S K : Type 0} (s : Selection) (result : Status) (bytes_left : S → Option (List ℕ)) (bytes_held : K → Option (List ℕ))
     (source_before source : S) (sink_before sink : K) : Type 0 where
   pub reads : ReadsInput result bytes_left source_before source sink_before sink
-  pub done : result ≡ status.Done → (input : List ℕ) → bytes_left source_before ≡ Some input →
-      IsSelected s input (bytes_left source) (bytes_held sink_before) (bytes_held sink)
-  pub bad_data : result ≡ status.BadData → (input : List ℕ) → bytes_left source_before ≡ Some input →
-      IsMisfit s input (bytes_left source) (bytes_held sink_before) (bytes_held sink)
+  pub done : result ≡ status.Done → Ended (IsSelected s) bytes_left source_before source bytes_held sink_before sink
+  pub bad_data : result ≡ status.BadData → Ended (IsMisfit s) bytes_left source_before source bytes_held sink_before sink
   pub bad_line : result ≢ status.BadLine

@@ -18,7 +18,7 @@ use Rattle.pybuf_value.specs.Spelling.{handle_text}
 use Rattle.pybuf_line.specs.Scalars.{handle_in}
 use Rattle.pybuf_line.specs.Lines.{commands_in}
 use Rattle.pybuf_line.specs.Replies.{reply_lines, bad_line_text}
-use Rattle.pybuf_cli.specs.Devices.{Put, PutPrefix}
+use Rattle.pybuf_cli.specs.Devices.{Put, PutPrefix, PutsFrontOf, Rose}
 
 -- the greatest length of an input
 abbrev pub most : ℕ
@@ -108,6 +108,10 @@ abbrev pub ending_for : {X : Type 0} → Result X ℕ → Status
 ending_for (Ok read) = status.Done
 ending_for (Err n) = status.BadLine
 
+-- so it is of the lines of an input
+abbrev pub due_of : List ℕ → List ℕ
+due_of input = due_for (commands_in handle_in input)
+
 -- the text that is due for a run of an input, or no text if the input is too long
 abbrev pub run_text : List ℕ → List ℕ
 run_text input = if nat_lt most (length input) then [] else due_for (commands_in handle_in input)
@@ -136,6 +140,16 @@ pub record IsBadLine (input : List ℕ) (left held_before held : Option (List �
   pub first : commands_in handle_in input ≡ Err line
   pub put : Put held_before (bad_line_text line) held
 
+-- The replies to the lines of an input were put, each of which is a command. The world is sound after each.
+abbrev pub RepliesPut : {K : Type 0} → List ℕ → (K → Option (List ℕ)) → K → K → Type 0
+RepliesPut input bytes_held old new =
+    (commands : List Command) × (commands_in handle_in input ≡ Ok commands) × StaysSound empty_world commands ×
+    Put (bytes_held old) (program commands) (bytes_held new)
+
+-- The number of a line was put, the first that spells nothing.
+abbrev pub BadLinePut : {X K : Type 0} → Result X ℕ → (K → Option (List ℕ)) → K → K → Type 0
+BadLinePut read bytes_held old new = (line : ℕ) × (read ≡ Err line) × Put (bytes_held old) (bad_line_text line) (bytes_held new)
+
 -- More bytes came than the program reads. The first that is too many was taken, and none after it.
 pub record IsTooLong (input : List ℕ) (left : Option (List ℕ)) : Type 0 where
   pub long : most < length input
@@ -150,12 +164,54 @@ pub record TakesFront (input : List ℕ) (result : Status) (left : Option (List 
   pub rest : left ≡ Some (drop count input)
   pub too_long : (result ≡ status.TooLong) ↔ (count ≡ suc most)
 
+-- ---- the frame of a form that reads its input: what was read and put, what is due, and how it ends
+
+-- Where the source tells its bytes, this is said of them, and of what is left and held then.
+abbrev pub Ended : {S K : Type 0} → (List ℕ → Option (List ℕ) → Option (List ℕ) → Option (List ℕ) → Type 0) →
+    (S → Option (List ℕ)) → S → S → (K → Option (List ℕ)) → K → K → Type 0
+Ended Is bytes_left source_before source bytes_held sink_before sink =
+    (input : List ℕ) → bytes_left source_before ≡ Some input → Is input (bytes_left source) (bytes_held sink_before) (bytes_held sink)
+
+-- Where it tells them, more came than are read.
+abbrev pub TakesTooMany : {S : Type 0} → (S → Option (List ℕ)) → S → S → Type 0
+TakesTooMany bytes_left before after = (input : List ℕ) → bytes_left before ≡ Some input → IsTooLong input (bytes_left after)
+
+-- Where it tells them, their front was taken, and no more than is read but for one byte.
+abbrev pub TakesAtMost : {S : Type 0} → Status → (S → Option (List ℕ)) → S → S → Type 0
+TakesAtMost result bytes_left before after = (input : List ℕ) → bytes_left before ≡ Some input → TakesFront input result (bytes_left after)
+
+-- Where it tells them, the front of the text that is due for them was put.
+abbrev pub PutsDue : {S K : Type 0} → (List ℕ → List ℕ) → (S → Option (List ℕ)) → S → (K → Option (List ℕ)) → K → K → Type 0
+PutsDue due bytes_left source_before bytes_held sink_before sink =
+    (input : List ℕ) → bytes_left source_before ≡ Some input → PutPrefix (bytes_held sink_before) (due input) (bytes_held sink)
+
+-- So it is where several texts may be due: the front of one of them was put.
+abbrev pub PutsOneDue : {S K : Type 0} → (List ℕ → List ℕ → Type 0) → (S → Option (List ℕ)) → S → (K → Option (List ℕ)) → K → K → Type 0
+PutsOneDue Due bytes_left source_before bytes_held sink_before sink =
+    (input : List ℕ) → bytes_left source_before ≡ Some input → PutsFrontOf (λ text. Due input text) (bytes_held sink_before) (bytes_held sink)
+
+-- Where it tells them and neither source nor sink fails, the form ends as is due for them, or memory ran out.
+abbrev pub MeetsEnding : {S K : Type 0} → (List ℕ → Status) → Status → (S → Option (List ℕ)) → (S → ℕ) → S → S → (K → ℕ) → K → K → Type 0
+MeetsEnding ending result bytes_left source_faults source_before source sink_faults sink_before sink =
+    (input : List ℕ) → bytes_left source_before ≡ Some input →
+    ¬ (Rose (source_faults source_before) (source_faults source)) → ¬ (Rose (sink_faults sink_before) (sink_faults sink)) →
+    (result ≡ ending input) ⊎ (result ≡ status.NoMemory)
+
+-- So it is where it may end in several ways.
+abbrev pub MeetsAnEnding : {S K : Type 0} → (List ℕ → Status → Type 0) → Status → (S → Option (List ℕ)) → (S → ℕ) → S → S → (K → ℕ) → K → K → Type 0
+MeetsAnEnding Ends result bytes_left source_faults source_before source sink_faults sink_before sink =
+    (input : List ℕ) → bytes_left source_before ≡ Some input →
+    ¬ (Rose (source_faults source_before) (source_faults source)) → ¬ (Rose (sink_faults sink_before) (sink_faults sink)) →
+    (Ends input result) ⊎ (result ≡ status.NoMemory)
+
+-- An answer to bytes that were read ends so, or memory ran out, or the sink failed.
+abbrev pub OrFails : Type 0 → Status → Type 0
+OrFails Ends result = Ends ⊎ ((result ≡ status.NoMemory) ⊎ (result ≡ status.WriteFault))
+
 -- What a form that reads its input promises, if the source tells its bytes.
 pub record ReadsInput {S K : Type 0} (result : Status) (bytes_left : S → Option (List ℕ)) (source_before source : S) (sink_before sink : K) : Type 0 where
-  pub too_long : result ≡ status.TooLong → (input : List ℕ) → bytes_left source_before ≡ Some input →
-      IsTooLong input (bytes_left source)
-  pub takes_front : (input : List ℕ) → bytes_left source_before ≡ Some input →
-      TakesFront input result (bytes_left source)
+  pub too_long : result ≡ status.TooLong → TakesTooMany bytes_left source_before source
+  pub takes_front : TakesAtMost result bytes_left source_before source
   pub unread_writes_nothing : (rest : List ℕ) → bytes_left source ≡ Some rest → 0 < length rest →
       sink ≡ sink_before
 
@@ -163,10 +219,8 @@ pub record ReadsInput {S K : Type 0} (result : Status) (bytes_left : S → Optio
 pub record Runs {S K : Type 0} (result : Status) (bytes_left : S → Option (List ℕ)) (bytes_held : K → Option (List ℕ))
     (source_before source : S) (sink_before sink : K) : Type 0 where
   pub reads : ReadsInput result bytes_left source_before source sink_before sink
-  pub done : result ≡ status.Done → (input : List ℕ) → bytes_left source_before ≡ Some input →
-      IsDone input (bytes_left source) (bytes_held sink_before) (bytes_held sink)
-  pub bad_line : result ≡ status.BadLine → (input : List ℕ) → bytes_left source_before ≡ Some input →
-      IsBadLine input (bytes_left source) (bytes_held sink_before) (bytes_held sink)
+  pub done : result ≡ status.Done → Ended IsDone bytes_left source_before source bytes_held sink_before sink
+  pub bad_line : result ≡ status.BadLine → Ended IsBadLine bytes_left source_before source bytes_held sink_before sink
 
 -- What the form `make` with a number promises. It doesn't read the source, so it doesn't matter what that
 -- tells.

@@ -5,8 +5,8 @@ use Rattle.pybuf_cli.specs.declared.forms.Form.{Form}
 use Rattle.pybuf_cli.specs.declared.forms.Form.TheVariants as form
 use Rattle.pybuf_cli.specs.declared.status.Status.{Status}
 use Rattle.pybuf_cli.specs.declared.status.Status.TheVariants as status
-use Rattle.pybuf_cli.specs.Devices.{PutsFrontOf, Rose}
-use Rattle.pybuf_cli.specs.Program.{TakesData, take_memory, run_text, run_ending, Runs, Makes}
+use Rattle.pybuf_cli.specs.Devices.{Rose}
+use Rattle.pybuf_cli.specs.Program.{TakesData, take_memory, run_text, run_ending, PutsOneDue, MeetsAnEnding, Runs, Makes}
 use Rattle.pybuf_cli.specs.Sharing.{IsDueShared, EndsShared, Shares}
 use Rattle.pybuf_cli.specs.Arrays.{array_run_text, array_run_ending, RunsArray}
 use Rattle.pybuf_cli.specs.Tables.{table_text, table_ending, ListsTable}
@@ -53,10 +53,8 @@ pub record ServesForm {S K : Type 0} (f : Form) (result : Status)
   -- what this form alone promises
   pub own : Owes f result bytes_left bytes_held source_before source sink_before sink
   -- This holds for each form, if the source tells its bytes.
-  pub prefix : (input : List ℕ) → bytes_left source_before ≡ Some input → PutsFrontOf (λ text. IsDue f input text) (bytes_held sink_before) (bytes_held sink)
-  pub complete : (input : List ℕ) → bytes_left source_before ≡ Some input →
-      ¬ (Rose (source_faults source_before) (source_faults source)) → ¬ (Rose (sink_faults sink_before) (sink_faults sink)) →
-      (Ends f input result) ⊎ (result ≡ status.NoMemory)
+  pub prefix : PutsOneDue (IsDue f) bytes_left source_before bytes_held sink_before sink
+  pub complete : MeetsAnEnding (Ends f) result bytes_left source_faults source_before source sink_faults sink_before sink
   -- Only a fault of a device ends a run with `ReadFault` or `WriteFault`.
   pub read_fault : result ≡ status.ReadFault → Rose (source_faults source_before) (source_faults source)
   pub write_fault : result ≡ status.WriteFault → Rose (sink_faults sink_before) (sink_faults sink)

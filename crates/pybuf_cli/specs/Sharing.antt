@@ -3,6 +3,7 @@ use Rattle.std.specs.Prelude.{◌≡◌, ◌≢◌, ◌⊎◌, ℕ, ◌≤◌, B
 use Rattle.pybuf_state.specs.Exporter.{Exporter}
 use Rattle.pybuf_share.specs.declared.entries.Entry.{Entry}
 use Rattle.pybuf_share.specs.declared.joined.FinishFault.{FinishFault}
+use Rattle.pybuf_share.specs.declared.joined.Joined.{Joined}
 use Rattle.pybuf_share.specs.declared.joined.FinishFault.TheVariants as why
 use Rattle.pybuf_share.specs.History.{replay, IsLegal}
 use Rattle.pybuf_share.specs.Joining.{Joins}
@@ -15,7 +16,7 @@ use Rattle.pybuf_line.specs.Replies.{bad_line_text}
 use Rattle.pybuf_cli.specs.declared.status.Status.{Status}
 use Rattle.pybuf_cli.specs.declared.status.Status.TheVariants as status
 use Rattle.pybuf_cli.specs.Devices.{Put}
-use Rattle.pybuf_cli.specs.Program.{most, ReadsInput}
+use Rattle.pybuf_cli.specs.Program.{most, ReadsInput, Ended}
 
 -- A text of a history that these sessions may have made. The history is legal from the kind and the bytes that
 -- they begin with, and the entries of each session follow its script. The bytes that are written are those of
@@ -96,13 +97,18 @@ pub record IsBadLineShared (input : List ℕ) (left held_before held : Option (L
   pub first : sessions_in input ≡ Err line
   pub put : Put held_before (bad_line_text line) held
 
+-- The lines of an input are those of sessions, and this was put for them.
+abbrev pub SessionsPut : {K : Type 0} → (Sessions → Option (List ℕ) → Option (List ℕ) → Type 0) → List ℕ → (K → Option (List ℕ)) → K → K → Type 0
+SessionsPut Is input bytes_held old new = (s : Sessions) × (sessions_in input ≡ Ok s) × Is s (bytes_held old) (bytes_held new)
+
+-- the text of what sessions came to that were put together
+abbrev pub joined_text : Joined → List ℕ
+joined_text joined = shared_text joined.entries joined.state.exporter
+
 -- What the form `share` promises, if the source tells its bytes.
 pub record Shares {S K : Type 0} (result : Status) (bytes_left : S → Option (List ℕ)) (bytes_held : K → Option (List ℕ))
     (source_before source : S) (sink_before sink : K) : Type 0 where
   pub reads : ReadsInput result bytes_left source_before source sink_before sink
-  pub done : result ≡ status.Done → (input : List ℕ) → bytes_left source_before ≡ Some input →
-      IsDoneShared input (bytes_left source) (bytes_held sink_before) (bytes_held sink)
-  pub bad_line : result ≡ status.BadLine → (input : List ℕ) → bytes_left source_before ≡ Some input →
-      IsBadLineShared input (bytes_left source) (bytes_held sink_before) (bytes_held sink)
-  pub disagree : result ≡ status.Disagree → (input : List ℕ) → bytes_left source_before ≡ Some input →
-      IsDisagreed input (bytes_left source) (bytes_held sink_before) (bytes_held sink)
+  pub done : result ≡ status.Done → Ended IsDoneShared bytes_left source_before source bytes_held sink_before sink
+  pub bad_line : result ≡ status.BadLine → Ended IsBadLineShared bytes_left source_before source bytes_held sink_before sink
+  pub disagree : result ≡ status.Disagree → Ended IsDisagreed bytes_left source_before source bytes_held sink_before sink

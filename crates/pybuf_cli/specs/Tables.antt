@@ -5,7 +5,7 @@ use Rattle.pybuf_table_lines.specs.Texts.{listing_text, left_over, left_over_tex
 use Rattle.pybuf_cli.specs.declared.status.Status.{Status}
 use Rattle.pybuf_cli.specs.declared.status.Status.TheVariants as status
 use Rattle.pybuf_cli.specs.Devices.{Put}
-use Rattle.pybuf_cli.specs.Program.{most, ReadsInput}
+use Rattle.pybuf_cli.specs.Program.{most, ReadsInput, Ended}
 
 -- The text that is due for bytes: a line for each record that is listed. If bytes are left over, it says how
 -- many.
@@ -39,12 +39,18 @@ pub record IsBadData (l : Listing) (input : List ℕ) (left held_before held : O
   pub some_left : 0 < left_over l input
   pub put : Put held_before (left_over_text (left_over l input)) held
 
+-- An input is records and nothing else, and a line for each that is listed was put.
+abbrev pub ListingPut : {K : Type 0} → Listing → List ℕ → (K → Option (List ℕ)) → K → K → Type 0
+ListingPut l input bytes_held old new = (left_over l input ≡ 0) × Put (bytes_held old) (listing_text l input) (bytes_held new)
+
+-- Bytes are left over behind its records, and how many was put.
+abbrev pub LeftOverPut : {K : Type 0} → Listing → List ℕ → (K → Option (List ℕ)) → K → K → Type 0
+LeftOverPut l input bytes_held old new = (0 < left_over l input) × Put (bytes_held old) (left_over_text (left_over l input)) (bytes_held new)
+
 -- What the form `table` promises, if the source tells its bytes. No line can be wrong here.
 pub record ListsTable {S K : Type 0} (l : Listing) (result : Status) (bytes_left : S → Option (List ℕ)) (bytes_held : K → Option (List ℕ))
     (source_before source : S) (sink_before sink : K) : Type 0 where
   pub reads : ReadsInput result bytes_left source_before source sink_before sink
-  pub done : result ≡ status.Done → (input : List ℕ) → bytes_left source_before ≡ Some input →
-      IsListed l input (bytes_left source) (bytes_held sink_before) (bytes_held sink)
-  pub bad_data : result ≡ status.BadData → (input : List ℕ) → bytes_left source_before ≡ Some input →
-      IsBadData l input (bytes_left source) (bytes_held sink_before) (bytes_held sink)
+  pub done : result ≡ status.Done → Ended (IsListed l) bytes_left source_before source bytes_held sink_before sink
+  pub bad_data : result ≡ status.BadData → Ended (IsBadData l) bytes_left source_before source bytes_held sink_before sink
   pub bad_line : result ≢ status.BadLine

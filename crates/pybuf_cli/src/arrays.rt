@@ -1,13 +1,9 @@
 //! The lines of an input, carried out one after the other on an array, with a line for each reply.
-ghost use Rattle.std.specs.Prelude.{◌≡◌, ◌≢◌, ◌<◌, ◌≤◌, ◌⊎◌, ℕ, List, length, Some, Ok, Err, OnOk, OnErr, IfErr};
-ghost use Rattle.pybuf_array.specs.declared.operations.ArrayOp.{ArrayOp};
-ghost use Rattle.pybuf_array.specs.Array.{new_array};
-ghost use Rattle.pybuf_array.specs.Operations.{KeepsLengthWhileViewed};
+ghost use Rattle.std.specs.Prelude.{◌≡◌, ◌≢◌, ◌<◌, ◌≤◌, ℕ, List, length, Some, OnOk, OnErr, IfErr};
 ghost use Rattle.pybuf_array_lines.specs.Inputs.{operations_in};
-ghost use Rattle.pybuf_line.specs.Replies.{bad_line_text};
-ghost use Rattle.pybuf_cli.specs.Devices.{Put, PutPrefix, Rose};
-ghost use Rattle.pybuf_cli.specs.Program.{ending_for, IsTooLong, TakesFront};
-ghost use Rattle.pybuf_cli.specs.Arrays.{array_program, array_due_for, array_run_text, array_run_ending, IsDoneArray, IsBadLineArray};
+ghost use Rattle.pybuf_cli.specs.Devices.{Rose, Puts, PutsPrefix};
+ghost use Rattle.pybuf_cli.specs.Program.{ending_for, Ended, TakesTooMany, TakesAtMost, PutsDue, MeetsEnding, OrFails, BadLinePut};
+ghost use Rattle.pybuf_cli.specs.Arrays.{array_run_text, array_run_ending, IsDoneArray, IsBadLineArray, array_due, ArrayRepliesPut};
 ghost use Rattle.pybuf_cli.specs.ArrayRunning.{IsOperation, AreOperations, IsCarriedOut, IsAnswered};
 ghost use Rattle.pybuf_cli.specs.declared.devices.PutFault.{PutFault};
 
@@ -58,8 +54,8 @@ fn run_lines<K: Sink>(
     input: &[u8],
 ) -> Result<(), PutFault>
     requires { AreOperations input.now }
-    ensures all { OnOk result (Put (K.bytes_held sink.old) (array_due_for code (operations_in input.now)) (K.bytes_held sink.new)) }
-    ensures prefix { OnErr result (PutPrefix (K.bytes_held sink.old) (array_due_for code (operations_in input.now)) (K.bytes_held sink.new)) }
+    ensures all { OnOk result (Puts K.bytes_held sink.old (array_due code input.now) sink.new) }
+    ensures prefix { OnErr result (PutsPrefix K.bytes_held sink.old (array_due code input.now) sink.new) }
     ensures rose { IfErr result (λ fault. fault ≡ PutFault.Failed → Rose (K.faults sink.old) (K.faults sink.new)) }
     ensures later { K.faults sink.old ≤ K.faults sink.new }
 {
@@ -84,10 +80,10 @@ fn run_lines<K: Sink>(
 /// Runs the lines of an input, each of which is an operation, and puts their replies.
 fn run_operations<K: Sink>(alloc: Global, code: ArrayCode, sink: &mut K, input: &[u8]) -> Status
     requires { AreOperations input.now }
-    ensures put { result ≡ Status.Done → Put (K.bytes_held sink.old) (array_due_for code (operations_in input.now)) (K.bytes_held sink.new) }
-    ensures prefix { PutPrefix (K.bytes_held sink.old) (array_due_for code (operations_in input.now)) (K.bytes_held sink.new) }
+    ensures put { result ≡ Status.Done → Puts K.bytes_held sink.old (array_due code input.now) sink.new }
+    ensures prefix { PutsPrefix K.bytes_held sink.old (array_due code input.now) sink.new }
     ensures rose { result ≡ Status.WriteFault → Rose (K.faults sink.old) (K.faults sink.new) }
-    ensures ending { (result ≡ Status.Done) ⊎ ((result ≡ Status.NoMemory) ⊎ (result ≡ Status.WriteFault)) }
+    ensures ending { OrFails (result ≡ Status.Done) result }
 {
     match run_lines(alloc, code, sink, input) {
         Ok(()) => Status::Done,
@@ -99,13 +95,11 @@ fn run_operations<K: Sink>(alloc: Global, code: ArrayCode, sink: &mut K, input: 
 /// Answers an input: runs its lines, or tells the first that is no operation. Lines are read twice, so that no list of
 /// operations is kept.
 fn answer<K: Sink>(alloc: Global, code: ArrayCode, sink: &mut K, input: &[u8]) -> Status
-    ensures done { result ≡ Status.Done → (operations : List ArrayOp) × (operations_in input.now ≡ Ok operations)
-        × KeepsLengthWhileViewed (new_array code) operations × Put (K.bytes_held sink.old) (array_program code operations) (K.bytes_held sink.new) }
-    ensures bad_line { result ≡ Status.BadLine → (line : ℕ) × (operations_in input.now ≡ Err line)
-        × Put (K.bytes_held sink.old) (bad_line_text line) (K.bytes_held sink.new) }
-    ensures prefix { PutPrefix (K.bytes_held sink.old) (array_due_for code (operations_in input.now)) (K.bytes_held sink.new) }
+    ensures done { result ≡ Status.Done → ArrayRepliesPut code input.now K.bytes_held sink.old sink.new }
+    ensures bad_line { result ≡ Status.BadLine → BadLinePut (operations_in input.now) K.bytes_held sink.old sink.new }
+    ensures prefix { PutsPrefix K.bytes_held sink.old (array_due code input.now) sink.new }
     ensures rose { result ≡ Status.WriteFault → Rose (K.faults sink.old) (K.faults sink.new) }
-    ensures ending { (result ≡ ending_for (operations_in input.now)) ⊎ ((result ≡ Status.NoMemory) ⊎ (result ≡ Status.WriteFault)) }
+    ensures ending { OrFails (result ≡ ending_for (operations_in input.now)) result }
 {
     lengths_stay_while_viewed();
     match check_operations(alloc, input) {
@@ -122,21 +116,14 @@ pub(crate) fn run_array<S: Source, K: Sink>(
     source: &mut S,
     sink: &mut K,
 ) -> Status
-    ensures done { result ≡ Status.Done → (input : List ℕ) → S.bytes_left source.old ≡ Some input →
-        IsDoneArray code input (S.bytes_left source.new) (K.bytes_held sink.old) (K.bytes_held sink.new) }
-    ensures bad_line { result ≡ Status.BadLine → (input : List ℕ) → S.bytes_left source.old ≡ Some input →
-        IsBadLineArray input (S.bytes_left source.new) (K.bytes_held sink.old) (K.bytes_held sink.new) }
-    ensures too_long { result ≡ Status.TooLong → (input : List ℕ) → S.bytes_left source.old ≡ Some input →
-        IsTooLong input (S.bytes_left source.new) }
-    ensures takes_front { (input : List ℕ) → S.bytes_left source.old ≡ Some input →
-        TakesFront input result (S.bytes_left source.new) }
+    ensures done { result ≡ Status.Done → Ended (IsDoneArray code) S.bytes_left source.old source.new K.bytes_held sink.old sink.new }
+    ensures bad_line { result ≡ Status.BadLine → Ended IsBadLineArray S.bytes_left source.old source.new K.bytes_held sink.old sink.new }
+    ensures too_long { result ≡ Status.TooLong → TakesTooMany S.bytes_left source.old source.new }
+    ensures takes_front { TakesAtMost result S.bytes_left source.old source.new }
     ensures unread_writes_nothing { (rest : List ℕ) → S.bytes_left source.new ≡ Some rest → 0 < length rest →
         sink.new ≡ sink.old }
-    ensures prefix { (input : List ℕ) → S.bytes_left source.old ≡ Some input →
-        PutPrefix (K.bytes_held sink.old) (array_run_text code input) (K.bytes_held sink.new) }
-    ensures complete { (input : List ℕ) → S.bytes_left source.old ≡ Some input →
-        ¬ (Rose (S.faults source.old) (S.faults source.new)) → ¬ (Rose (K.faults sink.old) (K.faults sink.new)) →
-        (result ≡ array_run_ending input) ⊎ (result ≡ Status.NoMemory) }
+    ensures prefix { PutsDue (array_run_text code) S.bytes_left source.old K.bytes_held sink.old sink.new }
+    ensures complete { MeetsEnding array_run_ending result S.bytes_left S.faults source.old source.new K.faults sink.old sink.new }
     ensures read_fault { result ≡ Status.ReadFault → Rose (S.faults source.old) (S.faults source.new) }
     ensures write_fault { result ≡ Status.WriteFault → Rose (K.faults sink.old) (K.faults sink.new) }
     ensures read_fault_writes_nothing { result ≡ Status.ReadFault → sink.new ≡ sink.old }

@@ -1,6 +1,6 @@
 //! The loops that read a whole input and write a whole text.
-ghost use Rattle.std.specs.Prelude.{◌≡◌, ◌≢◌, ◌<◌, ◌≤◌, ◌+◌, IfOk, OnOk, OnErr, IfErr, length, List, ℕ};
-ghost use Rattle.pybuf_cli.specs.Devices.{Took, AtEnd, Put, PutPrefix, Rose};
+ghost use Rattle.std.specs.Prelude.{◌≡◌, ◌≢◌, ◌≤◌, IfOk, OnOk, OnErr, IfErr, length};
+ghost use Rattle.pybuf_cli.specs.Devices.{Took, AtEnd, Rose, Puts, PutsPrefix, TookUpTo, TookOneMore};
 ghost use Rattle.pybuf_cli.specs.declared.loops.ReadStop.{ReadStop};
 ghost use Rattle.pybuf_cli.specs.declared.devices.PutFault.{PutFault};
 
@@ -43,9 +43,9 @@ pub fn read_all<S: Source>(alloc: Global, source: &mut S) -> Result<Vec<u8>, Rea
     ensures end { OnOk result (AtEnd (S.bytes_left source.new)) }
     ensures limit { IfOk result (λ input. length input.items ≤ MOST) }
     ensures too_long { IfErr result (λ stop. stop ≡ ReadStop.TooLong →
-        (bytes : List ℕ) × (length bytes ≡ MOST + 1) × Took (S.bytes_left source.old) bytes (S.bytes_left source.new)) }
+        TookOneMore MOST S.bytes_left source.old source.new) }
     ensures stopped { IfErr result (λ stop. stop ≢ ReadStop.TooLong →
-        (bytes : List ℕ) × (length bytes ≤ MOST) × Took (S.bytes_left source.old) bytes (S.bytes_left source.new)) }
+        TookUpTo MOST S.bytes_left source.old source.new) }
     ensures rose { IfErr result (λ stop. stop ≡ ReadStop.Failed → Rose (S.faults source.old) (S.faults source.new)) }
     ensures later { S.faults source.old ≤ S.faults source.new }
 {
@@ -71,8 +71,8 @@ pub fn read_all<S: Source>(alloc: Global, source: &mut S) -> Result<Vec<u8>, Rea
 
 /// Puts the whole text.
 pub fn write_all<K: Sink>(sink: &mut K, text: &[u8]) -> Result<(), PutFault>
-    ensures all { OnOk result (Put (K.bytes_held sink.old) text.now (K.bytes_held sink.new)) }
-    ensures prefix { OnErr result (PutPrefix (K.bytes_held sink.old) text.now (K.bytes_held sink.new)) }
+    ensures all { OnOk result (Puts K.bytes_held sink.old text.now sink.new) }
+    ensures prefix { OnErr result (PutsPrefix K.bytes_held sink.old text.now sink.new) }
     ensures rose { IfErr result (λ fault. fault ≡ PutFault.Failed → Rose (K.faults sink.old) (K.faults sink.new)) }
     ensures later { K.faults sink.old ≤ K.faults sink.new }
 {

@@ -1,8 +1,9 @@
 //! Texts that are put a piece at a time, and the line that tells which line is no command.
-ghost use Rattle.std.specs.Prelude.{◌≡◌, ◌≤◌, ◌⊎◌, true, false, [], ◌++◌, IfOk, OnOk, OnErr, IfErr};
+ghost use Rattle.std.specs.Prelude.{◌≡◌, ◌≤◌, true, false, [], ◌++◌, IfOk, OnOk, OnErr, IfErr};
 ghost use Rattle.pybuf_line.specs.Replies.{bad_line_text};
-ghost use Rattle.pybuf_cli.specs.Devices.{Put, PutPrefix, Rose, Sends};
+ghost use Rattle.pybuf_cli.specs.Devices.{Rose, Puts, PutsPrefix, SendsOf};
 ghost use Rattle.pybuf_cli.specs.declared.devices.PutFault.{PutFault};
+ghost use Rattle.pybuf_cli.specs.Program.{OrFails};
 
 use crate::devices::{PutFault, Sink};
 use crate::loops::{PIECE, write_all};
@@ -13,9 +14,9 @@ use std::alloc::Global;
 
 /// Puts the text, and leaves none to wait.
 fn send<K: Sink>(sink: &mut K, text: &mut Vec<u8>) -> Result<(), PutFault>
-    ensures put { OnOk result (Put (K.bytes_held sink.old) text.old.items (K.bytes_held sink.new)) }
+    ensures put { OnOk result (Puts K.bytes_held sink.old text.old.items sink.new) }
     ensures empty { OnOk result (text.new.items ≡ []) }
-    ensures prefix { OnErr result (PutPrefix (K.bytes_held sink.old) text.old.items (K.bytes_held sink.new)) }
+    ensures prefix { OnErr result (PutsPrefix K.bytes_held sink.old text.old.items sink.new) }
     ensures rose { IfErr result (λ fault. fault ≡ PutFault.Failed → Rose (K.faults sink.old) (K.faults sink.new)) }
     ensures later { K.faults sink.old ≤ K.faults sink.new }
 {
@@ -26,8 +27,8 @@ fn send<K: Sink>(sink: &mut K, text: &mut Vec<u8>) -> Result<(), PutFault>
 
 /// Puts the text where it is long.
 fn send_long<K: Sink>(sink: &mut K, text: &mut Vec<u8>) -> Result<(), PutFault>
-    ensures sent { OnOk result (Sends (K.bytes_held sink.old) text.old.items text.new.items (K.bytes_held sink.new)) }
-    ensures prefix { OnErr result (PutPrefix (K.bytes_held sink.old) text.old.items (K.bytes_held sink.new)) }
+    ensures sent { OnOk result (SendsOf K.bytes_held sink.old text.old.items text.new.items sink.new) }
+    ensures prefix { OnErr result (PutsPrefix K.bytes_held sink.old text.old.items sink.new) }
     ensures rose { IfErr result (λ fault. fault ≡ PutFault.Failed → Rose (K.faults sink.old) (K.faults sink.new)) }
     ensures later { K.faults sink.old ≤ K.faults sink.new }
 {
@@ -63,9 +64,9 @@ pub(crate) fn send_reply<K: Sink>(
     text: &mut Vec<u8>,
     reply: &mut Vec<u8>,
 ) -> Result<(), PutFault>
-    ensures sent { OnOk result (Sends (K.bytes_held sink.old) (text.old.items ++ reply.old.items) text.new.items (K.bytes_held sink.new)) }
+    ensures sent { OnOk result (SendsOf K.bytes_held sink.old (text.old.items ++ reply.old.items) text.new.items sink.new) }
     ensures empty { OnOk result (reply.new.items ≡ []) }
-    ensures prefix { OnErr result (PutPrefix (K.bytes_held sink.old) (text.old.items ++ reply.old.items) (K.bytes_held sink.new)) }
+    ensures prefix { OnErr result (PutsPrefix K.bytes_held sink.old (text.old.items ++ reply.old.items) sink.new) }
     ensures rose { IfErr result (λ fault. fault ≡ PutFault.Failed → Rose (K.faults sink.old) (K.faults sink.new)) }
     ensures later { K.faults sink.old ≤ K.faults sink.new }
 {
@@ -78,7 +79,7 @@ pub(crate) fn send_reply<K: Sink>(
 
 /// Puts as much of the text as the sink takes.
 pub(crate) fn send_front<K: Sink>(sink: &mut K, text: &[u8])
-    ensures prefix { PutPrefix (K.bytes_held sink.old) text.now (K.bytes_held sink.new) }
+    ensures prefix { PutsPrefix K.bytes_held sink.old text.now sink.new }
     ensures later { K.faults sink.old ≤ K.faults sink.new }
 {
     let _ = write_all(sink, text);
@@ -95,10 +96,10 @@ fn bad_line(alloc: Global, number: u64) -> Made<Vec<u8>>
 
 /// Puts which line is no command.
 pub(crate) fn write_bad_line<K: Sink>(alloc: Global, sink: &mut K, number: u64) -> Status
-    ensures put { result ≡ Status.BadLine → Put (K.bytes_held sink.old) (bad_line_text number) (K.bytes_held sink.new) }
-    ensures prefix { PutPrefix (K.bytes_held sink.old) (bad_line_text number) (K.bytes_held sink.new) }
+    ensures put { result ≡ Status.BadLine → Puts K.bytes_held sink.old (bad_line_text number) sink.new }
+    ensures prefix { PutsPrefix K.bytes_held sink.old (bad_line_text number) sink.new }
     ensures rose { result ≡ Status.WriteFault → Rose (K.faults sink.old) (K.faults sink.new) }
-    ensures ending { (result ≡ Status.BadLine) ⊎ ((result ≡ Status.NoMemory) ⊎ (result ≡ Status.WriteFault)) }
+    ensures ending { OrFails (result ≡ Status.BadLine) result }
 {
     match bad_line(alloc, number) {
         Ok(text) => match write_all(sink, text.as_slice()) {

@@ -1,25 +1,14 @@
 //! The top call: from the words and the input to the output and the status.
-ghost use Rattle.std.specs.Prelude.{◌≡◌, ◌≢◌, ◌<◌, ◌≤◌, ◌⊎◌, ◌^◌, List, [], ℕ, true, IfOk, Some, None, Ok, Err, length, take};
-ghost use Rattle.pybuf_command.specs.declared.worlds.Command.{Command};
-ghost use Rattle.pybuf_world.specs.World.{empty_world};
-ghost use Rattle.pybuf_world.specs.Sound.{StaysSound};
-ghost use Rattle.pybuf_cli.specs.Devices.{Put, PutPrefix, Rose};
+ghost use Rattle.std.specs.Prelude.{◌≡◌, ◌≢◌, ◌<◌, List, [], ℕ, Some, None, length};
+ghost use Rattle.pybuf_cli.specs.Devices.{Rose, Puts, PutsPrefix};
 ghost use Rattle.pybuf_line.specs.Scalars.{handle_in};
 ghost use Rattle.pybuf_line.specs.Lines.{commands_in};
-ghost use Rattle.pybuf_line.specs.Replies.{bad_line_text};
 ghost use Rattle.pybuf_make.specs.Summary.{summary};
-ghost use Rattle.pybuf_numbers.specs.declared.codes.ArrayCode.{ArrayCode};
-ghost use Rattle.pybuf_array.specs.declared.operations.ArrayOp.{ArrayOp};
-ghost use Rattle.pybuf_array_lines.specs.Inputs.{operations_in};
-ghost use Rattle.pybuf_table_lines.specs.Listings.{Listing};
-ghost use Rattle.pybuf_table_lines.specs.Texts.{listing_text, left_over, left_over_text};
-ghost use Rattle.pybuf_nd_lines.specs.Selections.{Selection, bytes_due, selection_text};
-ghost use Rattle.pybuf_nd_lines.specs.Texts.{misfit_text};
 ghost use Rattle.pybuf_cli.specs.declared.forms.Form.{Form};
 ghost use Rattle.pybuf_cli.specs.Running.{AreSpelled};
-ghost use Rattle.pybuf_cli.specs.Program.{form_of, take_memory, alone, program, due_for, ending_for, run_text, run_ending, IsDone, IsBadLine, IsTooLong, TakesFront};
-ghost use Rattle.pybuf_cli.specs.Arrays.{array_program};
-ghost use Rattle.pybuf_cli.specs.Serving.{IsDue, Ends, Serves};
+ghost use Rattle.pybuf_cli.specs.Program.{form_of, alone, ending_for, run_text, run_ending, IsDone, IsBadLine, due_of, Ended, TakesTooMany, TakesAtMost, PutsDue, MeetsEnding, OrFails, RepliesPut, BadLinePut};
+ghost use Rattle.pybuf_cli.specs.Serving.{Serves};
+ghost use Rattle.pybuf_cli.specs.Quiet.{IsRefusal, DoneRun, BadLineOfRun, DoneArray, BadLineOfArray, DoneTable, BadDataOfTable, DoneNd, BadDataOfNd, IsFrontDue, EndsOrNoMemory};
 
 use crate::arrays::run_array;
 use crate::devices::{PutFault, Sink, Source};
@@ -44,10 +33,10 @@ use std::thread::Threads;
 /// Runs the lines of an input, each of which is a command, and puts their replies.
 fn run_commands<K: Sink>(alloc: Global, sink: &mut K, input: &[u8]) -> Status
     requires { AreSpelled input.now }
-    ensures put { result ≡ Status.Done → Put (K.bytes_held sink.old) (due_for (commands_in handle_in input.now)) (K.bytes_held sink.new) }
-    ensures prefix { PutPrefix (K.bytes_held sink.old) (due_for (commands_in handle_in input.now)) (K.bytes_held sink.new) }
+    ensures put { result ≡ Status.Done → Puts K.bytes_held sink.old (due_of input.now) sink.new }
+    ensures prefix { PutsPrefix K.bytes_held sink.old (due_of input.now) sink.new }
     ensures rose { result ≡ Status.WriteFault → Rose (K.faults sink.old) (K.faults sink.new) }
-    ensures ending { (result ≡ Status.Done) ⊎ ((result ≡ Status.NoMemory) ⊎ (result ≡ Status.WriteFault)) }
+    ensures ending { OrFails (result ≡ Status.Done) result }
 {
     match run_lines(alloc, sink, input) {
         Ok(()) => Status::Done,
@@ -59,13 +48,11 @@ fn run_commands<K: Sink>(alloc: Global, sink: &mut K, input: &[u8]) -> Status
 /// Answers an input: runs its lines, or tells the first that is no command. Lines are read twice, so
 /// that no list of commands is kept: first all are looked over, and then each is read and run.
 fn answer<K: Sink>(alloc: Global, sink: &mut K, input: &[u8]) -> Status
-    ensures done { result ≡ Status.Done → (commands : List Command) × (commands_in handle_in input.now ≡ Ok commands)
-        × StaysSound empty_world commands × Put (K.bytes_held sink.old) (program commands) (K.bytes_held sink.new) }
-    ensures bad_line { result ≡ Status.BadLine → (line : ℕ) × (commands_in handle_in input.now ≡ Err line)
-        × Put (K.bytes_held sink.old) (bad_line_text line) (K.bytes_held sink.new) }
-    ensures prefix { PutPrefix (K.bytes_held sink.old) (due_for (commands_in handle_in input.now)) (K.bytes_held sink.new) }
+    ensures done { result ≡ Status.Done → RepliesPut input.now K.bytes_held sink.old sink.new }
+    ensures bad_line { result ≡ Status.BadLine → BadLinePut (commands_in handle_in input.now) K.bytes_held sink.old sink.new }
+    ensures prefix { PutsPrefix K.bytes_held sink.old (due_of input.now) sink.new }
     ensures rose { result ≡ Status.WriteFault → Rose (K.faults sink.old) (K.faults sink.new) }
-    ensures ending { (result ≡ ending_for (commands_in handle_in input.now)) ⊎ ((result ≡ Status.NoMemory) ⊎ (result ≡ Status.WriteFault)) }
+    ensures ending { OrFails (result ≡ ending_for (commands_in handle_in input.now)) result }
 {
     runs_stay_sound();
     match check_lines(alloc, input) {
@@ -77,21 +64,14 @@ fn answer<K: Sink>(alloc: Global, sink: &mut K, input: &[u8]) -> Status
 
 /// Reads the whole input, and answers it.
 fn run<S: Source, K: Sink>(alloc: Global, source: &mut S, sink: &mut K) -> Status
-    ensures done { result ≡ Status.Done → (input : List ℕ) → S.bytes_left source.old ≡ Some input →
-        IsDone input (S.bytes_left source.new) (K.bytes_held sink.old) (K.bytes_held sink.new) }
-    ensures bad_line { result ≡ Status.BadLine → (input : List ℕ) → S.bytes_left source.old ≡ Some input →
-        IsBadLine input (S.bytes_left source.new) (K.bytes_held sink.old) (K.bytes_held sink.new) }
-    ensures too_long { result ≡ Status.TooLong → (input : List ℕ) → S.bytes_left source.old ≡ Some input →
-        IsTooLong input (S.bytes_left source.new) }
-    ensures takes_front { (input : List ℕ) → S.bytes_left source.old ≡ Some input →
-        TakesFront input result (S.bytes_left source.new) }
+    ensures done { result ≡ Status.Done → Ended IsDone S.bytes_left source.old source.new K.bytes_held sink.old sink.new }
+    ensures bad_line { result ≡ Status.BadLine → Ended IsBadLine S.bytes_left source.old source.new K.bytes_held sink.old sink.new }
+    ensures too_long { result ≡ Status.TooLong → TakesTooMany S.bytes_left source.old source.new }
+    ensures takes_front { TakesAtMost result S.bytes_left source.old source.new }
     ensures unread_writes_nothing { (rest : List ℕ) → S.bytes_left source.new ≡ Some rest → 0 < length rest →
         sink.new ≡ sink.old }
-    ensures prefix { (input : List ℕ) → S.bytes_left source.old ≡ Some input →
-        PutPrefix (K.bytes_held sink.old) (run_text input) (K.bytes_held sink.new) }
-    ensures complete { (input : List ℕ) → S.bytes_left source.old ≡ Some input →
-        ¬ (Rose (S.faults source.old) (S.faults source.new)) → ¬ (Rose (K.faults sink.old) (K.faults sink.new)) →
-        (result ≡ run_ending input) ⊎ (result ≡ Status.NoMemory) }
+    ensures prefix { PutsDue run_text S.bytes_left source.old K.bytes_held sink.old sink.new }
+    ensures complete { MeetsEnding run_ending result S.bytes_left S.faults source.old source.new K.faults sink.old sink.new }
     ensures read_fault { result ≡ Status.ReadFault → Rose (S.faults source.old) (S.faults source.new) }
     ensures write_fault { result ≡ Status.WriteFault → Rose (K.faults sink.old) (K.faults sink.new) }
     ensures read_fault_writes_nothing { result ≡ Status.ReadFault → sink.new ≡ sink.old }
@@ -110,10 +90,10 @@ fn run<S: Source, K: Sink>(alloc: Global, source: &mut S, sink: &mut K) -> Statu
 
 /// Runs the script of a number, and puts what is told of its run.
 fn make<K: Sink>(alloc: Global, sink: &mut K, number: u16) -> Status
-    ensures put { result ≡ Status.Done → Put (K.bytes_held sink.old) (summary number) (K.bytes_held sink.new) }
-    ensures prefix { PutPrefix (K.bytes_held sink.old) (summary number) (K.bytes_held sink.new) }
+    ensures put { result ≡ Status.Done → Puts K.bytes_held sink.old (summary number) sink.new }
+    ensures prefix { PutsPrefix K.bytes_held sink.old (summary number) sink.new }
     ensures rose { result ≡ Status.WriteFault → Rose (K.faults sink.old) (K.faults sink.new) }
-    ensures ending { (result ≡ Status.Done) ⊎ ((result ≡ Status.NoMemory) ⊎ (result ≡ Status.WriteFault)) }
+    ensures ending { OrFails (result ≡ Status.Done) result }
 {
     match make_summary(alloc, number) {
         Ok(text) => match write_all(sink, text.as_slice()) {
@@ -181,29 +161,19 @@ pub fn serve_alone<S: Source, K: Sink>(
 /// Example: without words, of the input `b"new bytes x6162\nlen h0\n"`, it gives `b"h0\n2\n"` and `Status::Done`.
 pub fn serve_bytes(alloc: Global, words: &[Text], input: ByteList) -> (ByteList, Status)
     ensures usage { result.1 ≡ Status.Usage → alone (form_of words.now) ≡ None }
-    ensures refused { alone (form_of words.now) ≡ None → (result.1 ≡ Status.Usage) ⊎ ((take_memory words.now ≡ true) × (result.1 ≡ Status.NoMemory)) }
+    ensures refused { alone (form_of words.now) ≡ None → IsRefusal words.now result.1 }
     ensures refused_writes_nothing { alone (form_of words.now) ≡ None → result.0 ≡ [] }
-    ensures done { form_of words.now ≡ Some Form.Run → result.1 ≡ Status.Done →
-        (commands : List Command) × (commands_in handle_in input ≡ Ok commands) × (result.0 ≡ program commands) }
-    ensures bad_line { form_of words.now ≡ Some Form.Run → result.1 ≡ Status.BadLine →
-        (line : ℕ) × (commands_in handle_in input ≡ Err line) × (result.0 ≡ bad_line_text line) }
+    ensures done { DoneRun words.now input result.0 result.1 }
+    ensures bad_line { BadLineOfRun words.now input result.0 result.1 }
     ensures made { (n : ℕ) → form_of words.now ≡ Some (Form.Make n) → result.1 ≡ Status.Done → result.0 ≡ summary n }
-    ensures array_done { (c : ArrayCode) → form_of words.now ≡ Some (Form.Array c) → result.1 ≡ Status.Done →
-        (operations : List ArrayOp) × (operations_in input ≡ Ok operations) × (result.0 ≡ array_program c operations) }
-    ensures array_bad_line { (c : ArrayCode) → form_of words.now ≡ Some (Form.Array c) → result.1 ≡ Status.BadLine →
-        (line : ℕ) × (operations_in input ≡ Err line) × (result.0 ≡ bad_line_text line) }
-    ensures listed { (l : Listing) → form_of words.now ≡ Some (Form.Table l) → result.1 ≡ Status.Done →
-        (left_over l input ≡ 0) × (result.0 ≡ listing_text l input) }
-    ensures bad_data { (l : Listing) → form_of words.now ≡ Some (Form.Table l) → result.1 ≡ Status.BadData →
-        (0 < left_over l input) × (result.0 ≡ left_over_text (left_over l input)) }
-    ensures selected { (s : Selection) → form_of words.now ≡ Some (Form.Nd s) → result.1 ≡ Status.Done →
-        (length input ≡ bytes_due s) × (result.0 ≡ selection_text s input) }
-    ensures misfit { (s : Selection) → form_of words.now ≡ Some (Form.Nd s) → result.1 ≡ Status.BadData →
-        (length input ≢ bytes_due s) × (result.0 ≡ misfit_text (length input) (bytes_due s)) }
-    ensures prefix { (f : Form) → alone (form_of words.now) ≡ Some f →
-        (text : List ℕ) × IsDue f input text × (count : ℕ) × (count ≤ length text) × (result.0 ≡ take count text) }
-    ensures complete { (f : Form) → alone (form_of words.now) ≡ Some f →
-        (Ends f input result.1) ⊎ (result.1 ≡ Status.NoMemory) }
+    ensures array_done { DoneArray words.now input result.0 result.1 }
+    ensures array_bad_line { BadLineOfArray words.now input result.0 result.1 }
+    ensures listed { DoneTable words.now input result.0 result.1 }
+    ensures bad_data { BadDataOfTable words.now input result.0 result.1 }
+    ensures selected { DoneNd words.now input result.0 result.1 }
+    ensures misfit { BadDataOfNd words.now input result.0 result.1 }
+    ensures prefix { (f : Form) → alone (form_of words.now) ≡ Some f → IsFrontDue f input result.0 }
+    ensures complete { (f : Form) → alone (form_of words.now) ≡ Some f → EndsOrNoMemory f input result.1 }
     ensures no_read_fault { result.1 ≢ Status.ReadFault }
     ensures no_write_fault { result.1 ≢ Status.WriteFault }
     ensures disagree { result.1 ≢ Status.Disagree }

@@ -1,18 +1,15 @@
 //! The form `share`: sessions of one exporter, each in a thread of its own, and the history that they make.
-ghost use Rattle.std.specs.Prelude.{◌≡◌, ◌≢◌, ◌<◌, ◌≤◌, ◌⊎◌, false, ℕ, List, Some, Ok, Err, IfOk, IfErr, OnOk, OnErr, ◌++◌, length};
+ghost use Rattle.std.specs.Prelude.{◌≡◌, ◌≢◌, ◌<◌, ◌≤◌, ◌⊎◌, false, ℕ, List, Some, IfOk, IfErr, OnOk, OnErr, ◌++◌, length};
 ghost use Rattle.std.specs.List.{All, flat_map};
 ghost use Rattle.pybuf_share.specs.Working.{ScriptFits};
-ghost use Rattle.pybuf_share.specs.Running.{IsNotRun};
 ghost use Rattle.pybuf_share.specs.declared.joined.FinishFault.{FinishFault};
-ghost use Rattle.pybuf_sessions.specs.declared.sessions.Sessions.{Sessions};
 ghost use Rattle.pybuf_sessions.specs.Sessions.{sessions_in};
-ghost use Rattle.pybuf_histories.specs.Entries.{entry_line, last_lines, shared_text};
+ghost use Rattle.pybuf_histories.specs.Entries.{entry_line, last_lines};
 ghost use Rattle.pybuf_histories.specs.Faults.{fault_text};
-ghost use Rattle.pybuf_line.specs.Replies.{bad_line_text};
 ghost use Rattle.pybuf_cli.specs.declared.devices.PutFault.{PutFault};
-ghost use Rattle.pybuf_cli.specs.Devices.{Put, PutPrefix, PutsFrontOf, Rose, Sends};
-ghost use Rattle.pybuf_cli.specs.Program.{IsTooLong, TakesFront};
-ghost use Rattle.pybuf_cli.specs.Sharing.{IsOfSessions, IsDueOfLines, IsDueShared, EndsOfLines, EndsShared, PutsHistory, PutsFault, IsDoneShared, IsBadLineShared, IsDisagreed};
+ghost use Rattle.pybuf_cli.specs.Devices.{PutsFrontOf, Rose, Puts, PutsPrefix, SendsOf};
+ghost use Rattle.pybuf_cli.specs.Sharing.{IsOfSessions, IsDueOfLines, IsDueShared, EndsOfLines, EndsShared, PutsHistory, PutsFault, IsDoneShared, IsBadLineShared, IsDisagreed, SessionsPut, joined_text};
+ghost use Rattle.pybuf_cli.specs.Program.{Ended, TakesTooMany, TakesAtMost, PutsOneDue, MeetsAnEnding, OrFails, BadLinePut};
 
 use crate::devices::{PutFault, Sink, Source};
 use crate::loops::{ReadStop, read_all, write_all};
@@ -30,8 +27,8 @@ use std::thread::Threads;
 /// Puts the lines of entries, a piece at a time, and gives what waits behind them. Where memory runs out for a line, those
 /// before it are put first.
 fn put_entries<K: Sink>(alloc: Global, sink: &mut K, entries: &[Entry]) -> Result<Vec<u8>, PutFault>
-    ensures sent { IfOk result (λ text. Sends (K.bytes_held sink.old) (flat_map entry_line entries.now) text.items (K.bytes_held sink.new)) }
-    ensures prefix { OnErr result (PutPrefix (K.bytes_held sink.old) (flat_map entry_line entries.now) (K.bytes_held sink.new)) }
+    ensures sent { IfOk result (λ text. SendsOf K.bytes_held sink.old (flat_map entry_line entries.now) text.items sink.new) }
+    ensures prefix { OnErr result (PutsPrefix K.bytes_held sink.old (flat_map entry_line entries.now) sink.new) }
     ensures rose { IfErr result (λ fault. fault ≡ PutFault.Failed → Rose (K.faults sink.old) (K.faults sink.new)) }
     ensures later { K.faults sink.old ≤ K.faults sink.new }
 {
@@ -57,8 +54,8 @@ fn put_last<K: Sink>(
     calls: usize,
     bytes: &[u8],
 ) -> Result<(), PutFault>
-    ensures all { OnOk result (Put (K.bytes_held sink.old) (text.old.items ++ last_lines calls bytes.now) (K.bytes_held sink.new)) }
-    ensures prefix { OnErr result (PutPrefix (K.bytes_held sink.old) (text.old.items ++ last_lines calls bytes.now) (K.bytes_held sink.new)) }
+    ensures all { OnOk result (Puts K.bytes_held sink.old (text.old.items ++ last_lines calls bytes.now) sink.new) }
+    ensures prefix { OnErr result (PutsPrefix K.bytes_held sink.old (text.old.items ++ last_lines calls bytes.now) sink.new) }
     ensures rose { IfErr result (λ fault. fault ≡ PutFault.Failed → Rose (K.faults sink.old) (K.faults sink.new)) }
     ensures later { K.faults sink.old ≤ K.faults sink.new }
 {
@@ -73,8 +70,8 @@ fn put_last<K: Sink>(
 
 /// Puts the whole text of a history, a piece at a time.
 fn put_history<K: Sink>(alloc: Global, sink: &mut K, joined: &Joined) -> Result<(), PutFault>
-    ensures all { OnOk result (Put (K.bytes_held sink.old) (shared_text joined.now.entries joined.now.state.exporter) (K.bytes_held sink.new)) }
-    ensures prefix { OnErr result (PutPrefix (K.bytes_held sink.old) (shared_text joined.now.entries joined.now.state.exporter) (K.bytes_held sink.new)) }
+    ensures all { OnOk result (Puts K.bytes_held sink.old (joined_text joined.now) sink.new) }
+    ensures prefix { OnErr result (PutsPrefix K.bytes_held sink.old (joined_text joined.now) sink.new) }
     ensures rose { IfErr result (λ fault. fault ≡ PutFault.Failed → Rose (K.faults sink.old) (K.faults sink.new)) }
     ensures later { K.faults sink.old ≤ K.faults sink.new }
 {
@@ -85,10 +82,10 @@ fn put_history<K: Sink>(alloc: Global, sink: &mut K, joined: &Joined) -> Result<
 
 /// The same, as a status.
 fn write_history<K: Sink>(alloc: Global, sink: &mut K, joined: &Joined) -> Status
-    ensures put { result ≡ Status.Done → Put (K.bytes_held sink.old) (shared_text joined.now.entries joined.now.state.exporter) (K.bytes_held sink.new) }
-    ensures prefix { PutPrefix (K.bytes_held sink.old) (shared_text joined.now.entries joined.now.state.exporter) (K.bytes_held sink.new) }
+    ensures put { result ≡ Status.Done → Puts K.bytes_held sink.old (joined_text joined.now) sink.new }
+    ensures prefix { PutsPrefix K.bytes_held sink.old (joined_text joined.now) sink.new }
     ensures rose { result ≡ Status.WriteFault → Rose (K.faults sink.old) (K.faults sink.new) }
-    ensures ending { (result ≡ Status.Done) ⊎ ((result ≡ Status.NoMemory) ⊎ (result ≡ Status.WriteFault)) }
+    ensures ending { OrFails (result ≡ Status.Done) result }
 {
     match put_history(alloc, sink, joined) {
         Ok(()) => Status::Done,
@@ -108,11 +105,11 @@ fn fault_line(alloc: Global, fault: &FinishFault) -> Made<Vec<u8>>
 
 /// Puts why sessions don't agree with their history. Want of memory shows nothing, and is answered as such.
 fn write_fault<K: Sink>(alloc: Global, sink: &mut K, fault: &FinishFault) -> Status
-    ensures put { result ≡ Status.Disagree → Put (K.bytes_held sink.old) (fault_text fault.now) (K.bytes_held sink.new) }
+    ensures put { result ≡ Status.Disagree → Puts K.bytes_held sink.old (fault_text fault.now) sink.new }
     ensures two_values { result ≡ Status.Disagree → fault.now ≢ FinishFault.NoMemory }
-    ensures prefix { PutPrefix (K.bytes_held sink.old) (fault_text fault.now) (K.bytes_held sink.new) }
+    ensures prefix { PutsPrefix K.bytes_held sink.old (fault_text fault.now) sink.new }
     ensures rose { result ≡ Status.WriteFault → Rose (K.faults sink.old) (K.faults sink.new) }
-    ensures ending { (result ≡ Status.Disagree) ⊎ ((result ≡ Status.NoMemory) ⊎ (result ≡ Status.WriteFault)) }
+    ensures ending { OrFails (result ≡ Status.Disagree) result }
 {
     if let FinishFault::NoMemory = fault {
         return Status::NoMemory;
@@ -142,7 +139,7 @@ fn share_sessions<R: Threads + Wait + Sync, K: Sink, G: Gate + Sync>(
     ensures disagree { result ≡ Status.Disagree → PutsFault sessions (K.bytes_held sink.old) (K.bytes_held sink.new) }
     ensures prefix { PutsFrontOf (λ text. IsOfSessions sessions text) (K.bytes_held sink.old) (K.bytes_held sink.new) }
     ensures rose { result ≡ Status.WriteFault → Rose (K.faults sink.old) (K.faults sink.new) }
-    ensures ending { ((result ≡ Status.Done) ⊎ (result ≡ Status.Disagree)) ⊎ ((result ≡ Status.NoMemory) ⊎ (result ≡ Status.WriteFault)) }
+    ensures ending { OrFails ((result ≡ Status.Done) ⊎ (result ≡ Status.Disagree)) result }
 {
     let Sessions {
         kind,
@@ -164,15 +161,12 @@ fn answer<R: Threads + Wait + Sync, K: Sink, G: Gate + Sync>(
     input: &[u8],
     gate: &G,
 ) -> Status
-    ensures done { result ≡ Status.Done → (s : Sessions) × (sessions_in input.now ≡ Ok s)
-        × PutsHistory s (K.bytes_held sink.old) (K.bytes_held sink.new) }
-    ensures bad_line { result ≡ Status.BadLine → (line : ℕ) × (sessions_in input.now ≡ Err line)
-        × Put (K.bytes_held sink.old) (bad_line_text line) (K.bytes_held sink.new) }
-    ensures disagree { result ≡ Status.Disagree → (s : Sessions) × (sessions_in input.now ≡ Ok s)
-        × PutsFault s (K.bytes_held sink.old) (K.bytes_held sink.new) }
+    ensures done { result ≡ Status.Done → SessionsPut PutsHistory input.now K.bytes_held sink.old sink.new }
+    ensures bad_line { result ≡ Status.BadLine → BadLinePut (sessions_in input.now) K.bytes_held sink.old sink.new }
+    ensures disagree { result ≡ Status.Disagree → SessionsPut PutsFault input.now K.bytes_held sink.old sink.new }
     ensures prefix { PutsFrontOf (λ text. IsDueOfLines false (sessions_in input.now) text) (K.bytes_held sink.old) (K.bytes_held sink.new) }
     ensures rose { result ≡ Status.WriteFault → Rose (K.faults sink.old) (K.faults sink.new) }
-    ensures ending { (EndsOfLines false (sessions_in input.now) result) ⊎ ((result ≡ Status.NoMemory) ⊎ (result ≡ Status.WriteFault)) }
+    ensures ending { OrFails (EndsOfLines false (sessions_in input.now) result) result }
 {
     match read_sessions(alloc, input) {
         Ok(sessions) => share_sessions(rt, alloc, sink, sessions, gate),
@@ -189,23 +183,15 @@ pub(crate) fn share<R: Threads + Wait + Sync, S: Source, K: Sink, G: Gate + Sync
     sink: &mut K,
     gate: &G,
 ) -> Status
-    ensures done { result ≡ Status.Done → (input : List ℕ) → S.bytes_left source.old ≡ Some input →
-        IsDoneShared input (S.bytes_left source.new) (K.bytes_held sink.old) (K.bytes_held sink.new) }
-    ensures bad_line { result ≡ Status.BadLine → (input : List ℕ) → S.bytes_left source.old ≡ Some input →
-        IsBadLineShared input (S.bytes_left source.new) (K.bytes_held sink.old) (K.bytes_held sink.new) }
-    ensures disagree { result ≡ Status.Disagree → (input : List ℕ) → S.bytes_left source.old ≡ Some input →
-        IsDisagreed input (S.bytes_left source.new) (K.bytes_held sink.old) (K.bytes_held sink.new) }
-    ensures too_long { result ≡ Status.TooLong → (input : List ℕ) → S.bytes_left source.old ≡ Some input →
-        IsTooLong input (S.bytes_left source.new) }
-    ensures takes_front { (input : List ℕ) → S.bytes_left source.old ≡ Some input →
-        TakesFront input result (S.bytes_left source.new) }
+    ensures done { result ≡ Status.Done → Ended IsDoneShared S.bytes_left source.old source.new K.bytes_held sink.old sink.new }
+    ensures bad_line { result ≡ Status.BadLine → Ended IsBadLineShared S.bytes_left source.old source.new K.bytes_held sink.old sink.new }
+    ensures disagree { result ≡ Status.Disagree → Ended IsDisagreed S.bytes_left source.old source.new K.bytes_held sink.old sink.new }
+    ensures too_long { result ≡ Status.TooLong → TakesTooMany S.bytes_left source.old source.new }
+    ensures takes_front { TakesAtMost result S.bytes_left source.old source.new }
     ensures unread_writes_nothing { (rest : List ℕ) → S.bytes_left source.new ≡ Some rest → 0 < length rest →
         sink.new ≡ sink.old }
-    ensures prefix { (input : List ℕ) → S.bytes_left source.old ≡ Some input →
-        PutsFrontOf (λ text. IsDueShared input text) (K.bytes_held sink.old) (K.bytes_held sink.new) }
-    ensures complete { (input : List ℕ) → S.bytes_left source.old ≡ Some input →
-        ¬ (Rose (S.faults source.old) (S.faults source.new)) → ¬ (Rose (K.faults sink.old) (K.faults sink.new)) →
-        (EndsShared input result) ⊎ (result ≡ Status.NoMemory) }
+    ensures prefix { PutsOneDue IsDueShared S.bytes_left source.old K.bytes_held sink.old sink.new }
+    ensures complete { MeetsAnEnding EndsShared result S.bytes_left S.faults source.old source.new K.faults sink.old sink.new }
     ensures read_fault { result ≡ Status.ReadFault → Rose (S.faults source.old) (S.faults source.new) }
     ensures write_fault { result ≡ Status.WriteFault → Rose (K.faults sink.old) (K.faults sink.new) }
     ensures read_fault_writes_nothing { result ≡ Status.ReadFault → sink.new ≡ sink.old }

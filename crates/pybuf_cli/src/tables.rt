@@ -1,10 +1,10 @@
 //! The form `table`: the records of an input, a line each.
-ghost use Rattle.std.specs.Prelude.{◌≡◌, ◌≢◌, ◌<◌, ◌≤◌, ◌⊎◌, ℕ, List, Some, IfOk, IfErr, OnOk, OnErr, length};
+ghost use Rattle.std.specs.Prelude.{◌≡◌, ◌≢◌, ◌<◌, ◌≤◌, ℕ, List, Some, IfOk, IfErr, OnOk, OnErr, length};
 ghost use Rattle.pybuf_table_lines.specs.Texts.{listing_text, left_over, left_over_text};
 ghost use Rattle.pybuf_cli.specs.declared.devices.PutFault.{PutFault};
-ghost use Rattle.pybuf_cli.specs.Devices.{Put, PutPrefix, Rose};
-ghost use Rattle.pybuf_cli.specs.Program.{IsTooLong, TakesFront};
-ghost use Rattle.pybuf_cli.specs.Tables.{text_of_table, ending_of_table, table_text, table_ending, IsListed, IsBadData};
+ghost use Rattle.pybuf_cli.specs.Devices.{Rose, Puts, PutsPrefix};
+ghost use Rattle.pybuf_cli.specs.Tables.{text_of_table, ending_of_table, table_text, table_ending, IsListed, IsBadData, ListingPut, LeftOverPut};
+ghost use Rattle.pybuf_cli.specs.Program.{Ended, TakesTooMany, TakesAtMost, PutsDue, MeetsEnding, OrFails};
 
 use crate::devices::{PutFault, Sink, Source};
 use crate::loops::{ReadStop, read_all, write_all};
@@ -23,8 +23,8 @@ fn put_listing<K: Sink>(
     input: &[u8],
 ) -> Result<(), PutFault>
     requires { left_over listing.now input.now ≡ 0 }
-    ensures all { OnOk result (Put (K.bytes_held sink.old) (listing_text listing.now input.now) (K.bytes_held sink.new)) }
-    ensures prefix { OnErr result (PutPrefix (K.bytes_held sink.old) (listing_text listing.now input.now) (K.bytes_held sink.new)) }
+    ensures all { OnOk result (Puts K.bytes_held sink.old (listing_text listing.now input.now) sink.new) }
+    ensures prefix { OnErr result (PutsPrefix K.bytes_held sink.old (listing_text listing.now input.now) sink.new) }
     ensures rose { IfErr result (λ fault. fault ≡ PutFault.Failed → Rose (K.faults sink.old) (K.faults sink.new)) }
     ensures later { K.faults sink.old ≤ K.faults sink.new }
 {
@@ -47,10 +47,10 @@ fn put_listing<K: Sink>(
 /// The same, as a status.
 fn write_listing<K: Sink>(alloc: Global, sink: &mut K, listing: &Listing, input: &[u8]) -> Status
     requires { left_over listing.now input.now ≡ 0 }
-    ensures put { result ≡ Status.Done → Put (K.bytes_held sink.old) (listing_text listing.now input.now) (K.bytes_held sink.new) }
-    ensures prefix { PutPrefix (K.bytes_held sink.old) (listing_text listing.now input.now) (K.bytes_held sink.new) }
+    ensures put { result ≡ Status.Done → Puts K.bytes_held sink.old (listing_text listing.now input.now) sink.new }
+    ensures prefix { PutsPrefix K.bytes_held sink.old (listing_text listing.now input.now) sink.new }
     ensures rose { result ≡ Status.WriteFault → Rose (K.faults sink.old) (K.faults sink.new) }
-    ensures ending { (result ≡ Status.Done) ⊎ ((result ≡ Status.NoMemory) ⊎ (result ≡ Status.WriteFault)) }
+    ensures ending { OrFails (result ≡ Status.Done) result }
 {
     match put_listing(alloc, sink, listing, input) {
         Ok(()) => Status::Done,
@@ -70,10 +70,10 @@ fn left_over_line(alloc: Global, count: u64) -> Made<Vec<u8>>
 
 /// Puts how many bytes are left over.
 fn write_left_over<K: Sink>(alloc: Global, sink: &mut K, count: u64) -> Status
-    ensures put { result ≡ Status.BadData → Put (K.bytes_held sink.old) (left_over_text count) (K.bytes_held sink.new) }
-    ensures prefix { PutPrefix (K.bytes_held sink.old) (left_over_text count) (K.bytes_held sink.new) }
+    ensures put { result ≡ Status.BadData → Puts K.bytes_held sink.old (left_over_text count) sink.new }
+    ensures prefix { PutsPrefix K.bytes_held sink.old (left_over_text count) sink.new }
     ensures rose { result ≡ Status.WriteFault → Rose (K.faults sink.old) (K.faults sink.new) }
-    ensures ending { (result ≡ Status.BadData) ⊎ ((result ≡ Status.NoMemory) ⊎ (result ≡ Status.WriteFault)) }
+    ensures ending { OrFails (result ≡ Status.BadData) result }
 {
     match left_over_line(alloc, count) {
         Ok(text) => match write_all(sink, text.as_slice()) {
@@ -87,12 +87,11 @@ fn write_left_over<K: Sink>(alloc: Global, sink: &mut K, count: u64) -> Status
 
 /// Answers an input: puts the lines of its records, or how many bytes are left over behind them.
 fn answer<K: Sink>(alloc: Global, sink: &mut K, listing: &Listing, input: &[u8]) -> Status
-    ensures done { result ≡ Status.Done → (left_over listing.now input.now ≡ 0) × Put (K.bytes_held sink.old) (listing_text listing.now input.now) (K.bytes_held sink.new) }
-    ensures bad_data { result ≡ Status.BadData → (0 < left_over listing.now input.now)
-        × Put (K.bytes_held sink.old) (left_over_text (left_over listing.now input.now)) (K.bytes_held sink.new) }
-    ensures prefix { PutPrefix (K.bytes_held sink.old) (text_of_table listing.now input.now) (K.bytes_held sink.new) }
+    ensures done { result ≡ Status.Done → ListingPut listing.now input.now K.bytes_held sink.old sink.new }
+    ensures bad_data { result ≡ Status.BadData → LeftOverPut listing.now input.now K.bytes_held sink.old sink.new }
+    ensures prefix { PutsPrefix K.bytes_held sink.old (text_of_table listing.now input.now) sink.new }
     ensures rose { result ≡ Status.WriteFault → Rose (K.faults sink.old) (K.faults sink.new) }
-    ensures ending { (result ≡ ending_of_table listing.now input.now) ⊎ ((result ≡ Status.NoMemory) ⊎ (result ≡ Status.WriteFault)) }
+    ensures ending { OrFails (result ≡ ending_of_table listing.now input.now) result }
 {
     let count = listing.left_over(input);
     if count == 0 {
@@ -108,21 +107,14 @@ pub(crate) fn table<S: Source, K: Sink>(
     sink: &mut K,
     listing: &Listing,
 ) -> Status
-    ensures done { result ≡ Status.Done → (input : List ℕ) → S.bytes_left source.old ≡ Some input →
-        IsListed listing.now input (S.bytes_left source.new) (K.bytes_held sink.old) (K.bytes_held sink.new) }
-    ensures bad_data { result ≡ Status.BadData → (input : List ℕ) → S.bytes_left source.old ≡ Some input →
-        IsBadData listing.now input (S.bytes_left source.new) (K.bytes_held sink.old) (K.bytes_held sink.new) }
-    ensures too_long { result ≡ Status.TooLong → (input : List ℕ) → S.bytes_left source.old ≡ Some input →
-        IsTooLong input (S.bytes_left source.new) }
-    ensures takes_front { (input : List ℕ) → S.bytes_left source.old ≡ Some input →
-        TakesFront input result (S.bytes_left source.new) }
+    ensures done { result ≡ Status.Done → Ended (IsListed listing.now) S.bytes_left source.old source.new K.bytes_held sink.old sink.new }
+    ensures bad_data { result ≡ Status.BadData → Ended (IsBadData listing.now) S.bytes_left source.old source.new K.bytes_held sink.old sink.new }
+    ensures too_long { result ≡ Status.TooLong → TakesTooMany S.bytes_left source.old source.new }
+    ensures takes_front { TakesAtMost result S.bytes_left source.old source.new }
     ensures unread_writes_nothing { (rest : List ℕ) → S.bytes_left source.new ≡ Some rest → 0 < length rest →
         sink.new ≡ sink.old }
-    ensures prefix { (input : List ℕ) → S.bytes_left source.old ≡ Some input →
-        PutPrefix (K.bytes_held sink.old) (table_text listing.now input) (K.bytes_held sink.new) }
-    ensures complete { (input : List ℕ) → S.bytes_left source.old ≡ Some input →
-        ¬ (Rose (S.faults source.old) (S.faults source.new)) → ¬ (Rose (K.faults sink.old) (K.faults sink.new)) →
-        (result ≡ table_ending listing.now input) ⊎ (result ≡ Status.NoMemory) }
+    ensures prefix { PutsDue (table_text listing.now) S.bytes_left source.old K.bytes_held sink.old sink.new }
+    ensures complete { MeetsEnding (table_ending listing.now) result S.bytes_left S.faults source.old source.new K.faults sink.old sink.new }
     ensures read_fault { result ≡ Status.ReadFault → Rose (S.faults source.old) (S.faults source.new) }
     ensures write_fault { result ≡ Status.WriteFault → Rose (K.faults sink.old) (K.faults sink.new) }
     ensures read_fault_writes_nothing { result ≡ Status.ReadFault → sink.new ≡ sink.old }

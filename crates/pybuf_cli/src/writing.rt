@@ -1,11 +1,9 @@
 //! The lines of an input, run one after the other, with a line for each reply.
 ghost use Rattle.std.specs.Prelude.{◌≡◌, ◌≤◌, OnOk, OnErr, IfErr};
-ghost use Rattle.pybuf_line.specs.Scalars.{handle_in};
-ghost use Rattle.pybuf_line.specs.Lines.{commands_in};
-ghost use Rattle.pybuf_cli.specs.Devices.{Put, PutPrefix, Rose};
-ghost use Rattle.pybuf_cli.specs.Program.{due_for};
+ghost use Rattle.pybuf_cli.specs.Devices.{Rose, Puts, PutsPrefix};
 ghost use Rattle.pybuf_cli.specs.Running.{IsSpelled, AreSpelled, IsCarriedOut, IsAnswered};
 ghost use Rattle.pybuf_cli.specs.declared.devices.PutFault.{PutFault};
+ghost use Rattle.pybuf_cli.specs.Program.{due_of};
 
 use crate::devices::{PutFault, Sink};
 use crate::loops::write_all;
@@ -53,8 +51,8 @@ fn answer_line<'a>(
 /// put first.
 pub fn run_lines<K: Sink>(alloc: Global, sink: &mut K, input: &[u8]) -> Result<(), PutFault>
     requires { AreSpelled input.now }
-    ensures all { OnOk result (Put (K.bytes_held sink.old) (due_for (commands_in handle_in input.now)) (K.bytes_held sink.new)) }
-    ensures prefix { OnErr result (PutPrefix (K.bytes_held sink.old) (due_for (commands_in handle_in input.now)) (K.bytes_held sink.new)) }
+    ensures all { OnOk result (Puts K.bytes_held sink.old (due_of input.now) sink.new) }
+    ensures prefix { OnErr result (PutsPrefix K.bytes_held sink.old (due_of input.now) sink.new) }
     ensures rose { IfErr result (λ fault. fault ≡ PutFault.Failed → Rose (K.faults sink.old) (K.faults sink.new)) }
     ensures later { K.faults sink.old ≤ K.faults sink.new }
 {

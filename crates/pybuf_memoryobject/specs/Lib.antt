@@ -1,4 +1,5 @@
 pub mod Blocks
 pub mod Viewing
+pub mod Plain
 pub mod Lending
 pub mod Laws

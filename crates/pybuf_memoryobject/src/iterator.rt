@@ -1,8 +1,8 @@
 //! The iterator of a memoryview.
-ghost use Rattle.std.specs.Prelude.{◌≡◌, [], IfOk, OnErr};
+ghost use Rattle.std.specs.Prelude.{◌≡◌, [], OnErr};
 ghost use Rattle.pybuf_command.specs.declared.kinds.Subject.TheVariants as subjects;
 ghost use Rattle.pybuf_command.specs.declared.commands.Verb.TheVariants as verbs;
-ghost use Rattle.pybuf_exporter.specs.Step.{estep};
+ghost use Rattle.pybuf_exporter.specs.Stepping.{StateStepsBy};
 
 use pybuf_buffer::step_without_loans;
 use pybuf_command::{LocalReply, Subject, Verb};
@@ -54,7 +54,7 @@ impl PyMemoryViewIterator {
     /// an entry is left. Where it is refused, or memory runs out, it stays where it is.
     /// Example: over a view of `b"a"` it replies the item 97, and then `Stop`.
     pub fn next(&self, alloc: Global, state: &mut ExporterState) -> Made<LocalReply>
-        ensures ok { IfOk result (λ r. estep state.old.exporter (subjects.Iter self.now) verbs.Next [] ≡ (state.new.exporter, r)) }
+        ensures ok { StateStepsBy (subjects.Iter self.now) verbs.Next [] state.old result state.new }
         ensures err { OnErr result (state.new ≡ state.old) }
         ensures room { state.new.room ≡ state.old.room }
     {

@@ -1,12 +1,12 @@
 //! A memoryview that an exporter keeps.
 ghost use Rattle.std.specs.Prelude.{◌≡◌, ◌<◌, true, length, Ok, IfOk, OnErr};
-ghost use Rattle.pybuf_command.specs.declared.commands.LocalReply.TheVariants as replies;
 ghost use Rattle.pybuf_memoryview.specs.Snaps.{snap_of_copy};
-ghost use Rattle.pybuf_state.specs.Exporter.{with_view, released_in};
-ghost use Rattle.pybuf_state.specs.Fresh.{vector_of};
+ghost use Rattle.pybuf_state.specs.Exporter.{released_in};
 ghost use Rattle.pybuf_state.specs.Live.{is_live, layout_of};
 ghost use Rattle.pybuf_buffer.specs.Blocks.{LiesInFirst};
 ghost use Rattle.pybuf_memoryobject.specs.Blocks.{blocks_of};
+ghost use Rattle.pybuf_memoryobject.specs.Plain.{vector_of_view};
+ghost use Rattle.pybuf_buffer.specs.Making.{AddsView};
 
 use crate::views::add_blocks;
 use pybuf_buffer::PyBuffer;
@@ -104,7 +104,7 @@ impl PyMemoryView {
         buffer: &PyBuffer,
     ) -> Made<PyMemoryView>
         requires { is_live state.old.exporter buffer.now ≡ true }
-        ensures ok { IfOk result (λ made. with_view state.old.exporter (layout_of state.old.exporter buffer.now) ≡ (state.new.exporter, replies.View made)) }
+        ensures ok { AddsView (λ e. layout_of e buffer.now) state.old result state.new }
         ensures err { OnErr result (state.new ≡ state.old) }
         ensures room { state.new.room ≡ state.old.room }
     {
@@ -124,7 +124,7 @@ impl PyMemoryView {
     ) -> Made<PyMemoryView>
         requires live { is_live state.old.exporter buffer.now ≡ true }
         requires range { LiesInFirst range (layout_of state.old.exporter buffer.now).shape }
-        ensures ok { IfOk result (λ made. with_view state.old.exporter (blocks_of (layout_of state.old.exporter buffer.now) range) ≡ (state.new.exporter, replies.View made)) }
+        ensures ok { AddsView (λ e. blocks_of (layout_of e buffer.now) range) state.old result state.new }
         ensures err { OnErr result (state.new ≡ state.old) }
         ensures room { state.new.room ≡ state.old.room }
     {
@@ -137,7 +137,7 @@ impl PyMemoryView {
     /// Example: of `PyMemoryView::of(0)`, the only view of its exporter, it is `PyMemoryView::of(1)`, and `exports` is 2 then.
     pub fn new_view(&self, alloc: Global, state: &mut ExporterState) -> Made<PyMemoryView>
         requires { is_live state.old.exporter self.now ≡ true }
-        ensures ok { IfOk result (λ made. with_view state.old.exporter (layout_of state.old.exporter self.now) ≡ (state.new.exporter, replies.View made)) }
+        ensures ok { AddsView (λ e. layout_of e self.now) state.old result state.new }
         ensures err { OnErr result (state.new ≡ state.old) }
         ensures room { state.new.room ≡ state.old.room }
     {
@@ -155,7 +155,7 @@ impl PyMemoryView {
         state: &ExporterState,
     ) -> Made<(ExporterState, PyBuffer)>
         requires { is_live state.now.exporter self.now ≡ true }
-        ensures state { IfOk result (λ made. made.0.exporter ≡ vector_of (layout_of state.now.exporter self.now).readonly (snap_of_copy state.now.exporter.bytes (layout_of state.now.exporter self.now))) }
+        ensures state { IfOk result (λ made. made.0.exporter ≡ vector_of_view state.now.exporter self.now) }
         ensures buffer { IfOk result (λ made. made.1 ≡ 0) }
     {
         let copy = copy_of(alloc, state, self.view)?;

@@ -1,25 +1,16 @@
 //! `PyMemoryView` by plain arguments: each call but `set` makes no value, no loan and no reply.
-ghost use Rattle.std.specs.Prelude.{◌≡◌, [], map, pos, None, Some};
-ghost use Rattle.std.specs.Result.{result_map_both};
-ghost use Rattle.pybuf_value.specs.declared.values.PySlice as slices;
+ghost use Rattle.std.specs.Prelude.{◌≡◌, None, Some};
 ghost use Rattle.pybuf_value.specs.declared.values.Scalar.TheVariants as scalars;
 ghost use Rattle.pybuf_value.specs.declared.values.Value.TheVariants as values;
-ghost use Rattle.pybuf_command.specs.declared.kinds.Subject.TheVariants as subjects;
-ghost use Rattle.pybuf_command.specs.declared.commands.LocalReply.TheVariants as replies;
 ghost use Rattle.pybuf_command.specs.declared.commands.PropertyName.TheVariants as names;
-ghost use Rattle.pybuf_state.specs.Answers.{Answers, Reads};
-ghost use Rattle.pybuf_state.specs.Snaps.{snap_of_subject};
 ghost use Rattle.pybuf_verbs_views.specs.View.{view_of_own};
-ghost use Rattle.pybuf_verbs_views.specs.Slice.{slice_of_view};
-ghost use Rattle.pybuf_verbs_views.specs.Cast.{cast_of_view};
 ghost use Rattle.pybuf_verbs_views.specs.Release.{release_of_view};
 ghost use Rattle.pybuf_verbs_reads.specs.Get.{item_of_view};
 ghost use Rattle.pybuf_verbs_reads.specs.ToBytes.{bytes_of_view};
 ghost use Rattle.pybuf_verbs_reads.specs.Property.{property_of_view};
-ghost use Rattle.pybuf_command.specs.declared.commands.Verb.TheVariants as verbs;
-ghost use Rattle.pybuf_exporter.specs.Step.{estep};
-ghost use Rattle.pybuf_exporter.specs.Telling.{TellsRefusal};
-ghost use Rattle.pybuf_verbs_writes.specs.Assign.{assign_of_view, assign_of_lent};
+ghost use Rattle.pybuf_memoryobject.specs.Plain.{Slices, shape_value, Casts, SetsNumber, AssignsBytes, AssignsView};
+ghost use Rattle.pybuf_state.specs.Answers.{as_view, as_done, as_item, as_bytes, as_counts, as_numbers};
+ghost use Rattle.pybuf_exporter.specs.Stepping.{StateAnswers, StateReads};
 
 use crate::memory_view::PyMemoryView;
 use pybuf_exporter::ExporterState;
@@ -30,7 +21,7 @@ impl PyMemoryView {
     /// memory runs out, nothing is changed.
     /// Example: of a bytearray `b"abcdef"` it is a view of these six bytes.
     pub fn of_all(state: &mut ExporterState) -> Result<PyMemoryView, Halt>
-        ensures answer { Answers (view_of_own state.old.exporter) state.old.exporter (result_map_both replies.View (λ halt. halt) result) state.new.exporter }
+        ensures answer { StateAnswers state.old view_of_own (as_view result) state.new }
         ensures room { state.new.room ≡ state.old.room }
     {
         let number = state.add_whole()?;
@@ -48,7 +39,7 @@ impl PyMemoryView {
         state: &mut ExporterState,
         slice: S,
     ) -> Result<PyMemoryView, Halt>
-        ensures answer { (s : slices.PySlice) × S.converts slice s × Answers (slice_of_view state.old.exporter self.now s) state.old.exporter (result_map_both replies.View (λ halt. halt) result) state.new.exporter }
+        ensures answer { Slices (S.converts slice) self.now state.old result state.new }
         ensures room { state.new.room ≡ state.old.room }
     {
         let number = state.add_slice(self.number(), &slice.into())?;
@@ -61,7 +52,7 @@ impl PyMemoryView {
     /// `NotImplementedError` where it has several, and then with `IndexError` out of range.
     /// Example: of the items 1, 2, 3 in the format `H` the index -1 gives `Item::One(Scalar::Int(3))`.
     pub fn index(&self, state: &ExporterState, index: isize) -> Result<Item, Halt>
-        ensures { Reads (item_of_view state.now.exporter self.now (values.One (scalars.Int index))) state.now.exporter (result_map_both replies.Item (λ halt. halt) result) }
+        ensures { StateReads state.now (λ e. item_of_view e self.now (values.One (scalars.Int index))) (as_item result) }
     {
         state.item(self.number(), index)
     }
@@ -73,7 +64,7 @@ impl PyMemoryView {
     /// Nothing is changed then.
     /// Example: in the format `H` the index 0 and the number 513 write `b"\x01\x02"`, and 65,536 is refused with `TypeError`.
     pub fn set(&self, state: &mut ExporterState, index: isize, number: i128) -> Result<(), Halt>
-        ensures answer { TellsRefusal (estep state.old.exporter (subjects.View self.now) (verbs.Set (values.One (scalars.Int index)) (values.One (scalars.Int number))) []) state.old.exporter result state.new.exporter }
+        ensures answer { SetsNumber self.now index number state.old result state.new }
         ensures room { state.new.room ≡ state.old.room }
     {
         state.put_number(self.number(), index, number)
@@ -84,7 +75,7 @@ impl PyMemoryView {
     /// Refused with `ValueError` for a released view.
     /// Example: of the view `memoryview(b"abcdef")[::-2]` it has the bytes `b"fdb"`.
     pub fn to_vec(&self, state: &ExporterState) -> Result<Vec<u8>, Halt>
-        ensures { Reads (bytes_of_view state.now.exporter self.now None) state.now.exporter (result_map_both (λ bytes. replies.Bytes bytes.items) (λ halt. halt) result) }
+        ensures { StateReads state.now (λ e. bytes_of_view e self.now None) (as_bytes result) }
     {
         state.content(self.number())
     }
@@ -93,7 +84,7 @@ impl PyMemoryView {
     /// `view.cast(format)`. It is refused as `cast` is, and nothing is changed then.
     /// Example: of a view of `b"\x01\x00\x02\x00"` the format `"H"` gives a view with the items 1 and 2.
     pub fn cast_to(&self, state: &mut ExporterState, format: &str) -> Result<PyMemoryView, Halt>
-        ensures answer { Answers (cast_of_view state.old.exporter self.now (values.One (scalars.Text format.now)) None) state.old.exporter (result_map_both replies.View (λ halt. halt) result) state.new.exporter }
+        ensures answer { Casts (scalars.Text format.now) None self.now state.old result state.new }
         ensures room { state.new.room ≡ state.old.room }
     {
         let number = state.add_cast(self.number(), format)?;
@@ -109,7 +100,7 @@ impl PyMemoryView {
         format: &str,
         shape: &[usize],
     ) -> Result<PyMemoryView, Halt>
-        ensures answer { Answers (cast_of_view state.old.exporter self.now (values.One (scalars.Text format.now)) (Some (values.Tuple (map (λ n. scalars.Int (pos n)) shape.now)))) state.old.exporter (result_map_both replies.View (λ halt. halt) result) state.new.exporter }
+        ensures answer { Casts (scalars.Text format.now) (Some (shape_value shape.now)) self.now state.old result state.new }
         ensures room { state.new.room ≡ state.old.room }
     {
         let number = state.add_shaped_cast(self.number(), format, shape)?;
@@ -121,7 +112,7 @@ impl PyMemoryView {
     /// Refused with `ValueError` for a released view.
     /// Example: of a view of six bytes that was cast to `"B"` in the shape `[2, 3]` it has the entries 2 and 3.
     pub fn shape_vec(&self, state: &ExporterState) -> Result<Vec<usize>, Halt>
-        ensures { Reads (property_of_view state.now.exporter self.now names.Shape) state.now.exporter (result_map_both (λ shape. replies.Numbers (map (λ n. pos n) shape.items)) (λ halt. halt) result) }
+        ensures { StateReads state.now (λ e. property_of_view e self.now names.Shape) (as_counts result) }
     {
         state.shape(self.number())
     }
@@ -131,7 +122,7 @@ impl PyMemoryView {
     /// Refused with `ValueError` for a released view.
     /// Example: of a view of six bytes that was cast to `"B"` in the shape `[2, 3]` it has the strides 3 and 1.
     pub fn strides_vec(&self, state: &ExporterState) -> Result<Vec<isize>, Halt>
-        ensures { Reads (property_of_view state.now.exporter self.now names.Strides) state.now.exporter (result_map_both (λ strides. replies.Numbers strides.items) (λ halt. halt) result) }
+        ensures { StateReads state.now (λ e. property_of_view e self.now names.Strides) (as_numbers result) }
     {
         state.strides(self.number())
     }
@@ -148,7 +139,7 @@ impl PyMemoryView {
         slice: S,
         bytes: &[u8],
     ) -> Result<(), Halt>
-        ensures answer { (s : slices.PySlice) × S.converts slice s × Answers (assign_of_view state.old.exporter self.now s (values.One (scalars.Bytes bytes.now)) []) state.old.exporter (result_map_both (λ _. replies.Ok) (λ halt. halt) result) state.new.exporter }
+        ensures answer { AssignsBytes (S.converts slice) self.now bytes.now state.old result state.new }
         ensures room { state.new.room ≡ state.old.room }
     {
         state.assign_bytes(self.number(), &slice.into(), bytes)
@@ -168,7 +159,7 @@ impl PyMemoryView {
         other_state: &ExporterState,
         other: &PyMemoryView,
     ) -> Result<(), Halt>
-        ensures answer { (s : slices.PySlice) × S.converts slice s × Answers (assign_of_lent state.old.exporter self.now s (snap_of_subject other_state.now.exporter (subjects.View other.now))) state.old.exporter (result_map_both (λ _. replies.Ok) (λ halt. halt) result) state.new.exporter }
+        ensures answer { AssignsView (S.converts slice) self.now other_state.now other.now state.old result state.new }
         ensures room { state.new.room ≡ state.old.room }
     {
         state.assign_across(self.number(), &slice.into(), other_state, other.number())
@@ -184,7 +175,7 @@ impl PyMemoryView {
         slice: S,
         other: &PyMemoryView,
     ) -> Result<(), Halt>
-        ensures answer { (s : slices.PySlice) × S.converts slice s × Answers (assign_of_lent state.old.exporter self.now s (snap_of_subject state.old.exporter (subjects.View other.now))) state.old.exporter (result_map_both (λ _. replies.Ok) (λ halt. halt) result) state.new.exporter }
+        ensures answer { AssignsView (S.converts slice) self.now state.old other.now state.old result state.new }
         ensures room { state.new.room ≡ state.old.room }
     {
         state.assign_within(self.number(), &slice.into(), other.number())
@@ -195,7 +186,7 @@ impl PyMemoryView {
     /// Refused with `UnknownName` where no such view was given.
     /// Example: after `view.try_release(state)?`, `view.to_vec(state)` is refused with `ValueError`.
     pub fn try_release(&self, state: &mut ExporterState) -> Result<(), Halt>
-        ensures answer { Answers (release_of_view state.old.exporter self.now) state.old.exporter (result_map_both (λ _. replies.Ok) (λ halt. halt) result) state.new.exporter }
+        ensures answer { StateAnswers state.old (λ e. release_of_view e self.now) (as_done result) state.new }
         ensures room { state.new.room ≡ state.old.room }
     {
         state.release_view(self.number())?;

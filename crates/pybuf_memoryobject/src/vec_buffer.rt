@@ -3,10 +3,10 @@ ghost use Rattle.std.specs.Prelude.{◌≡◌, true, false, length, IfOk, IfErr,
 ghost use Rattle.std.specs.Borrow.{sem};
 ghost use Rattle.pybuf_value.specs.declared.faults.Fault.{Fault};
 ghost use Rattle.pybuf_command.specs.declared.kinds.ExporterKind.TheVariants as kinds;
-ghost use Rattle.pybuf_command.specs.declared.commands.LocalReply.TheVariants as replies;
 ghost use Rattle.pybuf_desc.specs.Layouts.{bytes_layout};
-ghost use Rattle.pybuf_state.specs.Exporter.{new_exporter, with_view, exports_of};
+ghost use Rattle.pybuf_state.specs.Exporter.{new_exporter, exports_of};
 ghost use Rattle.pybuf_state.specs.Resizing.{has_exports};
+ghost use Rattle.pybuf_buffer.specs.Making.{GainsView};
 
 use crate::views::add_all;
 use pybuf_buffer::PyBuffer;
@@ -91,7 +91,7 @@ impl VecBuffer {
     /// Example: of a new vector it is `PyBuffer::of(0)`.
     pub fn into_pybuffer(&mut self, readonly: bool) -> Made<PyBuffer>
         requires { self.old.kind ≡ kinds.Vector false }
-        ensures ok { IfOk result (λ made. with_view self.old (bytes_layout (length self.old.bytes) readonly) ≡ (self.new, replies.View made)) }
+        ensures ok { GainsView (bytes_layout (length self.old.bytes) readonly) self.old result self.new }
         ensures err { OnErr result (self.new ≡ self.old) }
     {
         let view = add_all(self.alloc, &mut self.exporter, readonly)?;

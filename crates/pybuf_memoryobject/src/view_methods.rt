@@ -1,10 +1,9 @@
 //! The commands on a memoryview, as methods of it.
-ghost use Rattle.std.specs.Prelude.{◌≡◌, IfOk, OnErr};
+ghost use Rattle.std.specs.Prelude.{◌≡◌, OnErr};
 ghost use Rattle.pybuf_state.specs.Fits.{LoansFit};
-ghost use Rattle.pybuf_command.specs.declared.kinds.Subject.TheVariants as subjects;
 ghost use Rattle.pybuf_command.specs.declared.commands.PropertyName.TheVariants as names;
 ghost use Rattle.pybuf_command.specs.declared.commands.Verb.TheVariants as verbs;
-ghost use Rattle.pybuf_exporter.specs.Step.{estep};
+ghost use Rattle.pybuf_memoryobject.specs.Plain.{ViewStepsBy};
 
 use crate::memory_view::PyMemoryView;
 use pybuf_buffer::step_of;
@@ -18,7 +17,7 @@ impl PyMemoryView {
     /// Example: of `PyMemoryView::of(0)`, the only view of its exporter, it replies `View(1)`.
     pub fn as_buffer(&self, state: &mut ExporterState, loans: LoanList) -> Made<LocalReply>
         requires { LoansFit loans }
-        ensures ok { IfOk result (λ r. estep state.old.exporter (subjects.View self.now) verbs.View loans ≡ (state.new.exporter, r)) }
+        ensures ok { ViewStepsBy self.now verbs.View loans state.old result state.new }
         ensures err { OnErr result (state.new ≡ state.old) }
         ensures room { state.new.room ≡ state.old.room }
     {
@@ -45,7 +44,7 @@ impl PyMemoryView {
         loans: LoanList,
     ) -> Made<LocalReply>
         requires { LoansFit loans }
-        ensures ok { IfOk result (λ r. estep state.old.exporter (subjects.View self.now) (verbs.Get key) loans ≡ (state.new.exporter, r)) }
+        ensures ok { ViewStepsBy self.now (verbs.Get key) loans state.old result state.new }
         ensures err { OnErr result (state.new ≡ state.old) }
         ensures room { state.new.room ≡ state.old.room }
     {
@@ -69,7 +68,7 @@ impl PyMemoryView {
         loans: LoanList,
     ) -> Made<LocalReply>
         requires { LoansFit loans }
-        ensures ok { IfOk result (λ r. estep state.old.exporter (subjects.View self.now) (verbs.Set key value) loans ≡ (state.new.exporter, r)) }
+        ensures ok { ViewStepsBy self.now (verbs.Set key value) loans state.old result state.new }
         ensures err { OnErr result (state.new ≡ state.old) }
         ensures room { state.new.room ≡ state.old.room }
     {
@@ -91,7 +90,7 @@ impl PyMemoryView {
         loans: LoanList,
     ) -> Made<LocalReply>
         requires { LoansFit loans }
-        ensures ok { IfOk result (λ r. estep state.old.exporter (subjects.View self.now) (verbs.Compare op other) loans ≡ (state.new.exporter, r)) }
+        ensures ok { ViewStepsBy self.now (verbs.Compare op other) loans state.old result state.new }
         ensures err { OnErr result (state.new ≡ state.old) }
         ensures room { state.new.room ≡ state.old.room }
     {
@@ -110,7 +109,7 @@ impl PyMemoryView {
     /// Example: of a view of `bytes` `b"Abc"` it replies the bytes `b"Abc"`.
     pub fn hash(&self, state: &mut ExporterState, loans: LoanList) -> Made<LocalReply>
         requires { LoansFit loans }
-        ensures ok { IfOk result (λ r. estep state.old.exporter (subjects.View self.now) verbs.Hash loans ≡ (state.new.exporter, r)) }
+        ensures ok { ViewStepsBy self.now verbs.Hash loans state.old result state.new }
         ensures err { OnErr result (state.new ≡ state.old) }
         ensures room { state.new.room ≡ state.old.room }
     {
@@ -122,7 +121,7 @@ impl PyMemoryView {
     /// Example: of `PyMemoryView::of(0)` it replies the text `<memory 0>`.
     pub fn repr_str(&self, state: &mut ExporterState, loans: LoanList) -> Made<LocalReply>
         requires { LoansFit loans }
-        ensures ok { IfOk result (λ r. estep state.old.exporter (subjects.View self.now) verbs.Repr loans ≡ (state.new.exporter, r)) }
+        ensures ok { ViewStepsBy self.now verbs.Repr loans state.old result state.new }
         ensures err { OnErr result (state.new ≡ state.old) }
         ensures room { state.new.room ≡ state.old.room }
     {
@@ -144,7 +143,7 @@ impl PyMemoryView {
         loans: LoanList,
     ) -> Made<LocalReply>
         requires { LoansFit loans }
-        ensures ok { IfOk result (λ r. estep state.old.exporter (subjects.View self.now) (verbs.Hex sep group) loans ≡ (state.new.exporter, r)) }
+        ensures ok { ViewStepsBy self.now (verbs.Hex sep group) loans state.old result state.new }
         ensures err { OnErr result (state.new ≡ state.old) }
         ensures room { state.new.room ≡ state.old.room }
     {
@@ -166,7 +165,7 @@ impl PyMemoryView {
         loans: LoanList,
     ) -> Made<LocalReply>
         requires { LoansFit loans }
-        ensures ok { IfOk result (λ r. estep state.old.exporter (subjects.View self.now) (verbs.Del key) loans ≡ (state.new.exporter, r)) }
+        ensures ok { ViewStepsBy self.now (verbs.Del key) loans state.old result state.new }
         ensures err { OnErr result (state.new ≡ state.old) }
         ensures room { state.new.room ≡ state.old.room }
     {
@@ -202,7 +201,7 @@ impl PyMemoryView {
         loans: LoanList,
     ) -> Made<LocalReply>
         requires { LoansFit loans }
-        ensures ok { IfOk result (λ r. estep state.old.exporter (subjects.View self.now) (verbs.Cast format shape) loans ≡ (state.new.exporter, r)) }
+        ensures ok { ViewStepsBy self.now (verbs.Cast format shape) loans state.old result state.new }
         ensures err { OnErr result (state.new ≡ state.old) }
         ensures room { state.new.room ≡ state.old.room }
     {
@@ -223,7 +222,7 @@ impl PyMemoryView {
         loans: LoanList,
     ) -> Made<LocalReply>
         requires { LoansFit loans }
-        ensures ok { IfOk result (λ r. estep state.old.exporter (subjects.View self.now) (verbs.CastF format shape) loans ≡ (state.new.exporter, r)) }
+        ensures ok { ViewStepsBy self.now (verbs.CastF format shape) loans state.old result state.new }
         ensures err { OnErr result (state.new ≡ state.old) }
         ensures room { state.new.room ≡ state.old.room }
     {
@@ -240,7 +239,7 @@ impl PyMemoryView {
     /// Example: of a view of a bytearray it replies the number of a view whose `setitem` is refused with `TypeError`.
     pub fn toreadonly(&self, state: &mut ExporterState, loans: LoanList) -> Made<LocalReply>
         requires { LoansFit loans }
-        ensures ok { IfOk result (λ r. estep state.old.exporter (subjects.View self.now) verbs.ToReadonly loans ≡ (state.new.exporter, r)) }
+        ensures ok { ViewStepsBy self.now verbs.ToReadonly loans state.old result state.new }
         ensures err { OnErr result (state.new ≡ state.old) }
         ensures room { state.new.room ≡ state.old.room }
     {
@@ -261,7 +260,7 @@ impl PyMemoryView {
         loans: LoanList,
     ) -> Made<LocalReply>
         requires { LoansFit loans }
-        ensures ok { IfOk result (λ r. estep state.old.exporter (subjects.View self.now) (verbs.ToBytes order) loans ≡ (state.new.exporter, r)) }
+        ensures ok { ViewStepsBy self.now (verbs.ToBytes order) loans state.old result state.new }
         ensures err { OnErr result (state.new ≡ state.old) }
         ensures room { state.new.room ≡ state.old.room }
     {
@@ -277,7 +276,7 @@ impl PyMemoryView {
     /// Example: it replies `Itself` of an unreleased view.
     pub fn enter(&self, state: &mut ExporterState, loans: LoanList) -> Made<LocalReply>
         requires { LoansFit loans }
-        ensures ok { IfOk result (λ r. estep state.old.exporter (subjects.View self.now) verbs.Enter loans ≡ (state.new.exporter, r)) }
+        ensures ok { ViewStepsBy self.now verbs.Enter loans state.old result state.new }
         ensures err { OnErr result (state.new ≡ state.old) }
         ensures room { state.new.room ≡ state.old.room }
     {
@@ -289,7 +288,7 @@ impl PyMemoryView {
     /// Example: after it `len` of the same view is refused with `ValueError`.
     pub fn exit(&self, state: &mut ExporterState, loans: LoanList) -> Made<LocalReply>
         requires { LoansFit loans }
-        ensures ok { IfOk result (λ r. estep state.old.exporter (subjects.View self.now) verbs.Exit loans ≡ (state.new.exporter, r)) }
+        ensures ok { ViewStepsBy self.now verbs.Exit loans state.old result state.new }
         ensures err { OnErr result (state.new ≡ state.old) }
         ensures room { state.new.room ≡ state.old.room }
     {
@@ -301,7 +300,7 @@ impl PyMemoryView {
     /// Example: of a view of `b"Abc"` it replies the items 65, 98 and 99 with the shape 3.
     pub fn tolist(&self, state: &mut ExporterState, loans: LoanList) -> Made<LocalReply>
         requires { LoansFit loans }
-        ensures ok { IfOk result (λ r. estep state.old.exporter (subjects.View self.now) verbs.ToList loans ≡ (state.new.exporter, r)) }
+        ensures ok { ViewStepsBy self.now verbs.ToList loans state.old result state.new }
         ensures err { OnErr result (state.new ≡ state.old) }
         ensures room { state.new.room ≡ state.old.room }
     {
@@ -315,7 +314,7 @@ impl PyMemoryView {
     /// Example: of six bytes that are cast in the shape `(2, 3)` it replies the item 2.
     pub fn len(&self, state: &mut ExporterState, loans: LoanList) -> Made<LocalReply>
         requires { LoansFit loans }
-        ensures ok { IfOk result (λ r. estep state.old.exporter (subjects.View self.now) verbs.Len loans ≡ (state.new.exporter, r)) }
+        ensures ok { ViewStepsBy self.now verbs.Len loans state.old result state.new }
         ensures err { OnErr result (state.new ≡ state.old) }
         ensures room { state.new.room ≡ state.old.room }
     {
@@ -329,7 +328,7 @@ impl PyMemoryView {
     /// Example: of a view of a new bytearray it replies `Iter(0)`, which `PyMemoryViewIterator::of(0)` names.
     pub fn iter(&self, state: &mut ExporterState, loans: LoanList) -> Made<LocalReply>
         requires { LoansFit loans }
-        ensures ok { IfOk result (λ r. estep state.old.exporter (subjects.View self.now) verbs.Iter loans ≡ (state.new.exporter, r)) }
+        ensures ok { ViewStepsBy self.now verbs.Iter loans state.old result state.new }
         ensures err { OnErr result (state.new ≡ state.old) }
         ensures room { state.new.room ≡ state.old.room }
     {
@@ -340,7 +339,7 @@ impl PyMemoryView {
     /// Example: it replies `Own` of an unreleased view.
     pub fn obj(&self, state: &mut ExporterState, loans: LoanList) -> Made<LocalReply>
         requires { LoansFit loans }
-        ensures ok { IfOk result (λ r. estep state.old.exporter (subjects.View self.now) (verbs.Property names.Obj) loans ≡ (state.new.exporter, r)) }
+        ensures ok { ViewStepsBy self.now (verbs.Property names.Obj) loans state.old result state.new }
         ensures err { OnErr result (state.new ≡ state.old) }
         ensures room { state.new.room ≡ state.old.room }
     {
@@ -358,7 +357,7 @@ impl PyMemoryView {
     /// Example: of three items of two bytes it replies the item 6.
     pub fn nbytes(&self, state: &mut ExporterState, loans: LoanList) -> Made<LocalReply>
         requires { LoansFit loans }
-        ensures ok { IfOk result (λ r. estep state.old.exporter (subjects.View self.now) (verbs.Property names.Nbytes) loans ≡ (state.new.exporter, r)) }
+        ensures ok { ViewStepsBy self.now (verbs.Property names.Nbytes) loans state.old result state.new }
         ensures err { OnErr result (state.new ≡ state.old) }
         ensures room { state.new.room ≡ state.old.room }
     {
@@ -377,7 +376,7 @@ impl PyMemoryView {
     /// Example: of a view of `bytes` it replies `Truth(true)`, and of a view of a bytearray `Truth(false)`.
     pub fn readonly(&self, state: &mut ExporterState, loans: LoanList) -> Made<LocalReply>
         requires { LoansFit loans }
-        ensures ok { IfOk result (λ r. estep state.old.exporter (subjects.View self.now) (verbs.Property names.Readonly) loans ≡ (state.new.exporter, r)) }
+        ensures ok { ViewStepsBy self.now (verbs.Property names.Readonly) loans state.old result state.new }
         ensures err { OnErr result (state.new ≡ state.old) }
         ensures room { state.new.room ≡ state.old.room }
     {
@@ -395,7 +394,7 @@ impl PyMemoryView {
     /// Example: of a view with the format `H` it replies the item 2.
     pub fn itemsize(&self, state: &mut ExporterState, loans: LoanList) -> Made<LocalReply>
         requires { LoansFit loans }
-        ensures ok { IfOk result (λ r. estep state.old.exporter (subjects.View self.now) (verbs.Property names.Itemsize) loans ≡ (state.new.exporter, r)) }
+        ensures ok { ViewStepsBy self.now (verbs.Property names.Itemsize) loans state.old result state.new }
         ensures err { OnErr result (state.new ≡ state.old) }
         ensures room { state.new.room ≡ state.old.room }
     {
@@ -414,7 +413,7 @@ impl PyMemoryView {
     /// Example: of a view in the shape `(2, 3)` it replies the item 2.
     pub fn ndim(&self, state: &mut ExporterState, loans: LoanList) -> Made<LocalReply>
         requires { LoansFit loans }
-        ensures ok { IfOk result (λ r. estep state.old.exporter (subjects.View self.now) (verbs.Property names.Ndim) loans ≡ (state.new.exporter, r)) }
+        ensures ok { ViewStepsBy self.now (verbs.Property names.Ndim) loans state.old result state.new }
         ensures err { OnErr result (state.new ≡ state.old) }
         ensures room { state.new.room ≡ state.old.room }
     {
@@ -433,7 +432,7 @@ impl PyMemoryView {
     /// Example: of a view of three bytes it replies `Numbers` with 3 alone.
     pub fn shape(&self, state: &mut ExporterState, loans: LoanList) -> Made<LocalReply>
         requires { LoansFit loans }
-        ensures ok { IfOk result (λ r. estep state.old.exporter (subjects.View self.now) (verbs.Property names.Shape) loans ≡ (state.new.exporter, r)) }
+        ensures ok { ViewStepsBy self.now (verbs.Property names.Shape) loans state.old result state.new }
         ensures err { OnErr result (state.new ≡ state.old) }
         ensures room { state.new.room ≡ state.old.room }
     {
@@ -452,7 +451,7 @@ impl PyMemoryView {
     /// Example: of six bytes that are cast to `B` in the shape `(2, 3)` it replies `Numbers` with 3 and 1.
     pub fn strides(&self, state: &mut ExporterState, loans: LoanList) -> Made<LocalReply>
         requires { LoansFit loans }
-        ensures ok { IfOk result (λ r. estep state.old.exporter (subjects.View self.now) (verbs.Property names.Strides) loans ≡ (state.new.exporter, r)) }
+        ensures ok { ViewStepsBy self.now (verbs.Property names.Strides) loans state.old result state.new }
         ensures err { OnErr result (state.new ≡ state.old) }
         ensures room { state.new.room ≡ state.old.room }
     {
@@ -471,7 +470,7 @@ impl PyMemoryView {
     /// Example: of a view of two dimensions it replies `Numbers` with 0 and 0.
     pub fn suboffsets(&self, state: &mut ExporterState, loans: LoanList) -> Made<LocalReply>
         requires { LoansFit loans }
-        ensures ok { IfOk result (λ r. estep state.old.exporter (subjects.View self.now) (verbs.Property names.Suboffsets) loans ≡ (state.new.exporter, r)) }
+        ensures ok { ViewStepsBy self.now (verbs.Property names.Suboffsets) loans state.old result state.new }
         ensures err { OnErr result (state.new ≡ state.old) }
         ensures room { state.new.room ≡ state.old.room }
     {
@@ -489,7 +488,7 @@ impl PyMemoryView {
     /// Example: of a view of all bytes of a bytearray it replies the text `B`.
     pub fn format(&self, state: &mut ExporterState, loans: LoanList) -> Made<LocalReply>
         requires { LoansFit loans }
-        ensures ok { IfOk result (λ r. estep state.old.exporter (subjects.View self.now) (verbs.Property names.Format) loans ≡ (state.new.exporter, r)) }
+        ensures ok { ViewStepsBy self.now (verbs.Property names.Format) loans state.old result state.new }
         ensures err { OnErr result (state.new ≡ state.old) }
         ensures room { state.new.room ≡ state.old.room }
     {
@@ -508,7 +507,7 @@ impl PyMemoryView {
     /// Example: of a view of all bytes it replies `Truth(true)`, and of its slice `::2` with two items or more `Truth(false)`.
     pub fn contiguous(&self, state: &mut ExporterState, loans: LoanList) -> Made<LocalReply>
         requires { LoansFit loans }
-        ensures ok { IfOk result (λ r. estep state.old.exporter (subjects.View self.now) (verbs.Property names.Contiguous) loans ≡ (state.new.exporter, r)) }
+        ensures ok { ViewStepsBy self.now (verbs.Property names.Contiguous) loans state.old result state.new }
         ensures err { OnErr result (state.new ≡ state.old) }
         ensures room { state.new.room ≡ state.old.room }
     {
@@ -527,7 +526,7 @@ impl PyMemoryView {
     /// Example: of six bytes that are cast in the shape `(2, 3)` it replies `Truth(true)`.
     pub fn c_contiguous(&self, state: &mut ExporterState, loans: LoanList) -> Made<LocalReply>
         requires { LoansFit loans }
-        ensures ok { IfOk result (λ r. estep state.old.exporter (subjects.View self.now) (verbs.Property names.CContiguous) loans ≡ (state.new.exporter, r)) }
+        ensures ok { ViewStepsBy self.now (verbs.Property names.CContiguous) loans state.old result state.new }
         ensures err { OnErr result (state.new ≡ state.old) }
         ensures room { state.new.room ≡ state.old.room }
     {
@@ -547,7 +546,7 @@ impl PyMemoryView {
     /// Example: of six bytes by `cast_f` in the shape `(2, 3)` it replies `Truth(true)`, and by `cast` `Truth(false)`.
     pub fn f_contiguous(&self, state: &mut ExporterState, loans: LoanList) -> Made<LocalReply>
         requires { LoansFit loans }
-        ensures ok { IfOk result (λ r. estep state.old.exporter (subjects.View self.now) (verbs.Property names.FContiguous) loans ≡ (state.new.exporter, r)) }
+        ensures ok { ViewStepsBy self.now (verbs.Property names.FContiguous) loans state.old result state.new }
         ensures err { OnErr result (state.new ≡ state.old) }
         ensures room { state.new.room ≡ state.old.room }
     {

@@ -1,12 +1,11 @@
 //! New views of an exporter: of all its bytes, or of a range of a view's blocks.
-ghost use Rattle.std.specs.Prelude.{◌≡◌, true, false, length, IfOk, OnErr};
-ghost use Rattle.pybuf_command.specs.declared.commands.LocalReply.TheVariants as replies;
+ghost use Rattle.std.specs.Prelude.{◌≡◌, true, false, length, OnErr};
 ghost use Rattle.pybuf_command.specs.Kinds.{holds_readonly};
 ghost use Rattle.pybuf_desc.specs.Layouts.{bytes_layout};
-ghost use Rattle.pybuf_state.specs.Exporter.{with_view};
 ghost use Rattle.pybuf_state.specs.Live.{is_live, layout_of};
 ghost use Rattle.pybuf_buffer.specs.Blocks.{LiesInFirst};
 ghost use Rattle.pybuf_memoryobject.specs.Blocks.{blocks_of, range_parts};
+ghost use Rattle.pybuf_buffer.specs.Making.{AddsView};
 
 use pybuf_buffer::live_descriptor;
 use pybuf_desc::{
@@ -23,7 +22,7 @@ use std::ops::Range;
 /// its number.
 pub(crate) fn add_all(alloc: Global, state: &mut ExporterState, readonly: bool) -> Made<usize>
     requires { holds_readonly state.old.exporter.kind ≡ false }
-    ensures ok { IfOk result (λ made. with_view state.old.exporter (bytes_layout (length state.old.exporter.bytes) readonly) ≡ (state.new.exporter, replies.View made)) }
+    ensures ok { AddsView (λ e. bytes_layout (length e.bytes) readonly) state.old result state.new }
     ensures err { OnErr result (state.new ≡ state.old) }
     ensures room { state.new.room ≡ state.old.room }
 {
@@ -59,7 +58,7 @@ pub(crate) fn add_blocks(
 ) -> Made<usize>
     requires live { is_live state.old.exporter view ≡ true }
     requires range { LiesInFirst range (layout_of state.old.exporter view).shape }
-    ensures ok { IfOk result (λ made. with_view state.old.exporter (blocks_of (layout_of state.old.exporter view) range) ≡ (state.new.exporter, replies.View made)) }
+    ensures ok { AddsView (λ e. blocks_of (layout_of e view) range) state.old result state.new }
     ensures err { OnErr result (state.new ≡ state.old) }
     ensures room { state.new.room ≡ state.old.room }
 {

@@ -1,14 +1,14 @@
 //! Python's `bytearray`, as a value of its own.
-ghost use Rattle.std.specs.Prelude.{◌≡◌, ◌↔◌, length, IfOk, IfSome, IfErr, IsOk, IsSome, OnErr};
+ghost use Rattle.std.specs.Prelude.{◌≡◌, ◌↔◌, IfOk, IfSome, IfErr, IsOk, IsSome, OnErr};
 ghost use Rattle.std.specs.Borrow.{sem};
 ghost use Rattle.pybuf_state.specs.Fits.{LoansFit};
 ghost use Rattle.pybuf_command.specs.declared.kinds.ExporterKind.TheVariants as kinds;
 ghost use Rattle.pybuf_command.specs.declared.kinds.Subject.TheVariants as subjects;
 ghost use Rattle.pybuf_command.specs.declared.commands.PropertyName.TheVariants as names;
 ghost use Rattle.pybuf_command.specs.declared.commands.Verb.TheVariants as verbs;
-ghost use Rattle.pybuf_exporter.specs.Step.{estep};
 ghost use Rattle.pybuf_value.specs.declared.faults.Fault.{Fault};
 ghost use Rattle.pybuf_state.specs.Exporter.{new_exporter, exports_of};
+ghost use Rattle.pybuf_exporter.specs.Stepping.{StepsBy};
 
 use crate::guard::BufferResizeGuard;
 use pybuf_buffer::step_of;
@@ -131,7 +131,7 @@ impl PyByteArray {
     /// Example: of a new bytearray it replies `View(0)`, and a second time `View(1)`.
     pub fn as_buffer(&mut self, loans: LoanList) -> Made<LocalReply>
         requires { LoansFit loans }
-        ensures ok { IfOk result (λ r. estep self.old subjects.Own verbs.View loans ≡ (self.new, r)) }
+        ensures ok { StepsBy subjects.Own verbs.View loans self.old result self.new }
         ensures err { OnErr result (self.new ≡ self.old) }
     {
         self.exporter.view_of_own(&loans)
@@ -145,7 +145,7 @@ impl PyByteArray {
     /// Example: of `bytearray(b"abcdef")` from 1 up to 4 it replies the number of a view of `b"bcd"`.
     pub fn range(&mut self, from: Value, to: Value, loans: LoanList) -> Made<LocalReply>
         requires { LoansFit loans }
-        ensures ok { IfOk result (λ r. estep self.old subjects.Own (verbs.Range from to) loans ≡ (self.new, r)) }
+        ensures ok { StepsBy subjects.Own (verbs.Range from to) loans self.old result self.new }
         ensures err { OnErr result (self.new ≡ self.old) }
     {
         step_of(
@@ -165,7 +165,7 @@ impl PyByteArray {
     /// Example: of `bytearray(b"abc")` the key `-1` gets the item 99, and the key `0:2` gets `b"ab"`.
     pub fn getitem(&mut self, key: Value, loans: LoanList) -> Made<LocalReply>
         requires { LoansFit loans }
-        ensures ok { IfOk result (λ r. estep self.old subjects.Own (verbs.Get key) loans ≡ (self.new, r)) }
+        ensures ok { StepsBy subjects.Own (verbs.Get key) loans self.old result self.new }
         ensures err { OnErr result (self.new ≡ self.old) }
     {
         self.exporter.get_of_own(&key, &loans)
@@ -182,7 +182,7 @@ impl PyByteArray {
     /// Example: in `bytearray(b"abc")` the key `0:2` and the value `b"XYZ"` make `bytearray(b"XYZc")`.
     pub fn setitem(&mut self, key: Value, value: Value, loans: LoanList) -> Made<LocalReply>
         requires { LoansFit loans }
-        ensures ok { IfOk result (λ r. estep self.old subjects.Own (verbs.Set key value) loans ≡ (self.new, r)) }
+        ensures ok { StepsBy subjects.Own (verbs.Set key value) loans self.old result self.new }
         ensures err { OnErr result (self.new ≡ self.old) }
     {
         step_of(
@@ -201,7 +201,7 @@ impl PyByteArray {
     /// Example: in `bytearray(b"XYZcd")` the key `-1` makes `bytearray(b"XYZc")`.
     pub fn delitem(&mut self, key: Value, loans: LoanList) -> Made<LocalReply>
         requires { LoansFit loans }
-        ensures ok { IfOk result (λ r. estep self.old subjects.Own (verbs.Del key) loans ≡ (self.new, r)) }
+        ensures ok { StepsBy subjects.Own (verbs.Del key) loans self.old result self.new }
         ensures err { OnErr result (self.new ≡ self.old) }
     {
         step_of(&mut self.exporter, Subject::Own, Verb::Del { key }, loans)
@@ -211,7 +211,7 @@ impl PyByteArray {
     /// Example: of `bytearray(b"abc")` it replies the bytes `b"abc"`.
     pub fn tobytes(&mut self, loans: LoanList) -> Made<LocalReply>
         requires { LoansFit loans }
-        ensures ok { IfOk result (λ r. estep self.old subjects.Own (verbs.ToBytes None) loans ≡ (self.new, r)) }
+        ensures ok { StepsBy subjects.Own (verbs.ToBytes None) loans self.old result self.new }
         ensures err { OnErr result (self.new ≡ self.old) }
     {
         step_of(
@@ -227,7 +227,7 @@ impl PyByteArray {
     /// Example: of `bytearray(b"abc")` it replies the item 3.
     pub fn len(&mut self, loans: LoanList) -> Made<LocalReply>
         requires { LoansFit loans }
-        ensures ok { IfOk result (λ r. estep self.old subjects.Own verbs.Len loans ≡ (self.new, r)) }
+        ensures ok { StepsBy subjects.Own verbs.Len loans self.old result self.new }
         ensures err { OnErr result (self.new ≡ self.old) }
     {
         step_of(&mut self.exporter, Subject::Own, Verb::Len, loans)
@@ -239,7 +239,7 @@ impl PyByteArray {
     /// Example: of a new bytearray it replies `Iter(0)`, which `PyByteArrayIterator::of(0)` names.
     pub fn iter(&mut self, loans: LoanList) -> Made<LocalReply>
         requires { LoansFit loans }
-        ensures ok { IfOk result (λ r. estep self.old subjects.Own verbs.Iter loans ≡ (self.new, r)) }
+        ensures ok { StepsBy subjects.Own verbs.Iter loans self.old result self.new }
         ensures err { OnErr result (self.new ≡ self.old) }
     {
         step_of(&mut self.exporter, Subject::Own, Verb::Iter, loans)
@@ -250,7 +250,7 @@ impl PyByteArray {
     /// Example: it replies the item 1 after one `as_buffer`, and 0 again once that view is released.
     pub fn exports(&mut self, loans: LoanList) -> Made<LocalReply>
         requires { LoansFit loans }
-        ensures ok { IfOk result (λ r. estep self.old subjects.Own (verbs.Property names.Exports) loans ≡ (self.new, r)) }
+        ensures ok { StepsBy subjects.Own (verbs.Property names.Exports) loans self.old result self.new }
         ensures err { OnErr result (self.new ≡ self.old) }
     {
         step_of(
@@ -273,7 +273,7 @@ impl PyByteArray {
     #[inline(always)]
     pub fn append(&mut self, value: Value, loans: LoanList) -> Made<LocalReply>
         requires { LoansFit loans }
-        ensures ok { IfOk result (λ r. estep self.old subjects.Own (verbs.Append value) loans ≡ (self.new, r)) }
+        ensures ok { StepsBy subjects.Own (verbs.Append value) loans self.old result self.new }
         ensures err { OnErr result (self.new ≡ self.old) }
     {
         self.exporter.append(&value, &loans)
@@ -288,7 +288,7 @@ impl PyByteArray {
     /// Example: to `bytearray(b"ab")` the value `b"cd"` makes `bytearray(b"abcd")`.
     pub fn extend(&mut self, value: Value, loans: LoanList) -> Made<LocalReply>
         requires { LoansFit loans }
-        ensures ok { IfOk result (λ r. estep self.old subjects.Own (verbs.Extend value) loans ≡ (self.new, r)) }
+        ensures ok { StepsBy subjects.Own (verbs.Extend value) loans self.old result self.new }
         ensures err { OnErr result (self.new ≡ self.old) }
     {
         step_of(
@@ -307,7 +307,7 @@ impl PyByteArray {
     /// Example: in `bytearray(b"XYZc")` the index 0 and the value 33 make `bytearray(b"!XYZc")`.
     pub fn insert(&mut self, index: Value, value: Value, loans: LoanList) -> Made<LocalReply>
         requires { LoansFit loans }
-        ensures ok { IfOk result (λ r. estep self.old subjects.Own (verbs.Insert index value) loans ≡ (self.new, r)) }
+        ensures ok { StepsBy subjects.Own (verbs.Insert index value) loans self.old result self.new }
         ensures err { OnErr result (self.new ≡ self.old) }
     {
         step_of(
@@ -328,7 +328,7 @@ impl PyByteArray {
     #[inline(always)]
     pub fn pop(&mut self, index: Option<Value>, loans: LoanList) -> Made<LocalReply>
         requires { LoansFit loans }
-        ensures ok { IfOk result (λ r. estep self.old subjects.Own (verbs.Pop index) loans ≡ (self.new, r)) }
+        ensures ok { StepsBy subjects.Own (verbs.Pop index) loans self.old result self.new }
         ensures err { OnErr result (self.new ≡ self.old) }
     {
         self.exporter.pop(&index, &loans)
@@ -341,7 +341,7 @@ impl PyByteArray {
     /// Example: from `bytearray(b"abab")` the value 98 leaves `bytearray(b"aab")`.
     pub fn remove(&mut self, value: Value, loans: LoanList) -> Made<LocalReply>
         requires { LoansFit loans }
-        ensures ok { IfOk result (λ r. estep self.old subjects.Own (verbs.Remove value) loans ≡ (self.new, r)) }
+        ensures ok { StepsBy subjects.Own (verbs.Remove value) loans self.old result self.new }
         ensures err { OnErr result (self.new ≡ self.old) }
     {
         step_of(
@@ -359,7 +359,7 @@ impl PyByteArray {
     /// Example: `bytearray(b"abc")` is `bytearray(b"")` then.
     pub fn clear(&mut self, loans: LoanList) -> Made<LocalReply>
         requires { LoansFit loans }
-        ensures ok { IfOk result (λ r. estep self.old subjects.Own verbs.Clear loans ≡ (self.new, r)) }
+        ensures ok { StepsBy subjects.Own verbs.Clear loans self.old result self.new }
         ensures err { OnErr result (self.new ≡ self.old) }
     {
         step_of(&mut self.exporter, Subject::Own, Verb::Clear, loans)
@@ -370,7 +370,7 @@ impl PyByteArray {
     /// Example: `bytearray(b"abc")` is `bytearray(b"cba")` then.
     pub fn reverse(&mut self, loans: LoanList) -> Made<LocalReply>
         requires { LoansFit loans }
-        ensures ok { IfOk result (λ r. estep self.old subjects.Own verbs.Reverse loans ≡ (self.new, r)) }
+        ensures ok { StepsBy subjects.Own verbs.Reverse loans self.old result self.new }
         ensures err { OnErr result (self.new ≡ self.old) }
     {
         step_of(&mut self.exporter, Subject::Own, Verb::Reverse, loans)
@@ -385,7 +385,7 @@ impl PyByteArray {
     /// Example: to `bytearray(b"ab")` the value `b"cd"` makes `bytearray(b"abcd")`, and the value 5 is refused with `TypeError`.
     pub fn iadd(&mut self, value: Value, loans: LoanList) -> Made<LocalReply>
         requires { LoansFit loans }
-        ensures ok { IfOk result (λ r. estep self.old subjects.Own (verbs.IAdd value) loans ≡ (self.new, r)) }
+        ensures ok { StepsBy subjects.Own (verbs.IAdd value) loans self.old result self.new }
         ensures err { OnErr result (self.new ≡ self.old) }
     {
         step_of(
@@ -405,7 +405,7 @@ impl PyByteArray {
     /// Example: `bytearray(b"ab")` by 2 is `bytearray(b"abab")`.
     pub fn imul(&mut self, count: Value, loans: LoanList) -> Made<LocalReply>
         requires { LoansFit loans }
-        ensures ok { IfOk result (λ r. estep self.old subjects.Own (verbs.IMul count) loans ≡ (self.new, r)) }
+        ensures ok { StepsBy subjects.Own (verbs.IMul count) loans self.old result self.new }
         ensures err { OnErr result (self.new ≡ self.old) }
     {
         step_of(
@@ -423,7 +423,7 @@ impl PyByteArray {
     /// Example: `bytearray(b"ab")` with `CompareOp::Lt` and `b"b"` replies `Truth(true)`.
     pub fn cmp(&mut self, op: CompareOp, other: Value, loans: LoanList) -> Made<LocalReply>
         requires { LoansFit loans }
-        ensures ok { IfOk result (λ r. estep self.old subjects.Own (verbs.Compare op other) loans ≡ (self.new, r)) }
+        ensures ok { StepsBy subjects.Own (verbs.Compare op other) loans self.old result self.new }
         ensures err { OnErr result (self.new ≡ self.old) }
     {
         step_of(
@@ -439,7 +439,7 @@ impl PyByteArray {
     /// Example: of every bytearray it replies `Refused(Fault::Kind)`.
     pub fn hash(&mut self, loans: LoanList) -> Made<LocalReply>
         requires { LoansFit loans }
-        ensures ok { IfOk result (λ r. estep self.old subjects.Own verbs.Hash loans ≡ (self.new, r)) }
+        ensures ok { StepsBy subjects.Own verbs.Hash loans self.old result self.new }
         ensures err { OnErr result (self.new ≡ self.old) }
     {
         step_of(&mut self.exporter, Subject::Own, Verb::Hash, loans)
@@ -451,7 +451,7 @@ impl PyByteArray {
     /// Example: of the bytes 97 and 0 it replies the text `bytearray(b'a\x00')`.
     pub fn repr_str(&mut self, loans: LoanList) -> Made<LocalReply>
         requires { LoansFit loans }
-        ensures ok { IfOk result (λ r. estep self.old subjects.Own verbs.Repr loans ≡ (self.new, r)) }
+        ensures ok { StepsBy subjects.Own verbs.Repr loans self.old result self.new }
         ensures err { OnErr result (self.new ≡ self.old) }
     {
         step_of(&mut self.exporter, Subject::Own, Verb::Repr, loans)
@@ -463,7 +463,7 @@ impl PyByteArray {
     /// Example: in `bytearray(b"Abc")` the value `b"bc"` replies `Truth(true)`.
     pub fn contains(&mut self, value: Value, loans: LoanList) -> Made<LocalReply>
         requires { LoansFit loans }
-        ensures ok { IfOk result (λ r. estep self.old subjects.Own (verbs.Contains value) loans ≡ (self.new, r)) }
+        ensures ok { StepsBy subjects.Own (verbs.Contains value) loans self.old result self.new }
         ensures err { OnErr result (self.new ≡ self.old) }
     {
         step_of(
@@ -480,7 +480,7 @@ impl PyByteArray {
     /// Example: on `bytearray(b"a,b,c")` the method `MethodName::RFind` with `b","` replies the item 3.
     pub fn call(&mut self, method: MethodCall, loans: LoanList) -> Made<LocalReply>
         requires { LoansFit loans }
-        ensures ok { IfOk result (λ r. estep self.old subjects.Own (verbs.Call method) loans ≡ (self.new, r)) }
+        ensures ok { StepsBy subjects.Own (verbs.Call method) loans self.old result self.new }
         ensures err { OnErr result (self.new ≡ self.old) }
     {
         step_of(
@@ -499,7 +499,7 @@ impl PyByteArray {
     /// Example: `bytearray(b"abc")` by the source `b"ab"` is `bytearray(b"ab")`.
     pub fn init(&mut self, options: ByteInnerNewOptions, loans: LoanList) -> Made<LocalReply>
         requires { LoansFit loans }
-        ensures ok { IfOk result (λ r. estep self.old subjects.Own (verbs.Init options) loans ≡ (self.new, r)) }
+        ensures ok { StepsBy subjects.Own (verbs.Init options) loans self.old result self.new }
         ensures err { OnErr result (self.new ≡ self.old) }
     {
         step_of(
@@ -516,7 +516,7 @@ impl PyByteArray {
     /// Example: of `bytearray(b"abc")` it replies `Fresh(snap)`, and the bytes of `snap` are `b"abc"`.
     pub fn copy(&mut self, loans: LoanList) -> Made<LocalReply>
         requires { LoansFit loans }
-        ensures ok { IfOk result (λ r. estep self.old subjects.Own verbs.Copy loans ≡ (self.new, r)) }
+        ensures ok { StepsBy subjects.Own verbs.Copy loans self.old result self.new }
         ensures err { OnErr result (self.new ≡ self.old) }
     {
         step_of(&mut self.exporter, Subject::Own, Verb::Copy, loans)

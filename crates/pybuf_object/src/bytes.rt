@@ -1,13 +1,13 @@
 //! Python's `bytes`, as a value of its own.
-ghost use Rattle.std.specs.Prelude.{◌≡◌, ◌==◌, length, IfOk, OnErr};
+ghost use Rattle.std.specs.Prelude.{◌≡◌, ◌==◌, length, OnErr};
 ghost use Rattle.std.specs.Borrow.{sem};
 ghost use Rattle.pybuf_state.specs.Fits.{LoansFit};
 ghost use Rattle.pybuf_command.specs.declared.kinds.ExporterKind.TheVariants as kinds;
 ghost use Rattle.pybuf_command.specs.declared.kinds.Subject.TheVariants as subjects;
 ghost use Rattle.pybuf_command.specs.declared.commands.PropertyName.TheVariants as names;
 ghost use Rattle.pybuf_command.specs.declared.commands.Verb.TheVariants as verbs;
-ghost use Rattle.pybuf_exporter.specs.Step.{estep};
 ghost use Rattle.pybuf_state.specs.Exporter.{new_exporter};
+ghost use Rattle.pybuf_exporter.specs.Stepping.{StepsBy};
 
 use pybuf_buffer::step_of;
 use pybuf_command::{ExporterKind, LoanList, LocalReply, MethodCall, PropertyName, Subject, Verb};
@@ -100,7 +100,7 @@ impl PyBytes {
     /// Example: of new bytes it replies `View(0)`, and a second time `View(1)`.
     pub fn as_buffer(&mut self, loans: LoanList) -> Made<LocalReply>
         requires { LoansFit loans }
-        ensures ok { IfOk result (λ r. estep self.old subjects.Own verbs.View loans ≡ (self.new, r)) }
+        ensures ok { StepsBy subjects.Own verbs.View loans self.old result self.new }
         ensures err { OnErr result (self.new ≡ self.old) }
     {
         self.exporter.view_of_own(&loans)
@@ -114,7 +114,7 @@ impl PyBytes {
     /// Example: of `b"abcdef"` from 1 up to 4 it replies the number of a view of `b"bcd"`.
     pub fn range(&mut self, from: Value, to: Value, loans: LoanList) -> Made<LocalReply>
         requires { LoansFit loans }
-        ensures ok { IfOk result (λ r. estep self.old subjects.Own (verbs.Range from to) loans ≡ (self.new, r)) }
+        ensures ok { StepsBy subjects.Own (verbs.Range from to) loans self.old result self.new }
         ensures err { OnErr result (self.new ≡ self.old) }
     {
         step_of(
@@ -134,7 +134,7 @@ impl PyBytes {
     /// Example: of `b"it's"` the key `-1` gets the item 115, and the key `1:3` gets `b"t'"`.
     pub fn getitem(&mut self, key: Value, loans: LoanList) -> Made<LocalReply>
         requires { LoansFit loans }
-        ensures ok { IfOk result (λ r. estep self.old subjects.Own (verbs.Get key) loans ≡ (self.new, r)) }
+        ensures ok { StepsBy subjects.Own (verbs.Get key) loans self.old result self.new }
         ensures err { OnErr result (self.new ≡ self.old) }
     {
         self.exporter.get_of_own(&key, &loans)
@@ -144,7 +144,7 @@ impl PyBytes {
     /// Example: of `b"abc"` it replies the bytes `b"abc"`.
     pub fn tobytes(&mut self, loans: LoanList) -> Made<LocalReply>
         requires { LoansFit loans }
-        ensures ok { IfOk result (λ r. estep self.old subjects.Own (verbs.ToBytes None) loans ≡ (self.new, r)) }
+        ensures ok { StepsBy subjects.Own (verbs.ToBytes None) loans self.old result self.new }
         ensures err { OnErr result (self.new ≡ self.old) }
     {
         step_of(
@@ -164,7 +164,7 @@ impl PyBytes {
     /// Example: `b"it's"` with `CompareOp::Lt` and `b"its"` replies `Truth(true)`.
     pub fn cmp(&mut self, op: CompareOp, other: Value, loans: LoanList) -> Made<LocalReply>
         requires { LoansFit loans }
-        ensures ok { IfOk result (λ r. estep self.old subjects.Own (verbs.Compare op other) loans ≡ (self.new, r)) }
+        ensures ok { StepsBy subjects.Own (verbs.Compare op other) loans self.old result self.new }
         ensures err { OnErr result (self.new ≡ self.old) }
     {
         step_of(
@@ -180,7 +180,7 @@ impl PyBytes {
     /// Example: of `b"it's"` it replies the bytes `b"it's"`.
     pub fn hash(&mut self, loans: LoanList) -> Made<LocalReply>
         requires { LoansFit loans }
-        ensures ok { IfOk result (λ r. estep self.old subjects.Own verbs.Hash loans ≡ (self.new, r)) }
+        ensures ok { StepsBy subjects.Own verbs.Hash loans self.old result self.new }
         ensures err { OnErr result (self.new ≡ self.old) }
     {
         step_of(&mut self.exporter, Subject::Own, Verb::Hash, loans)
@@ -192,7 +192,7 @@ impl PyBytes {
     /// Example: of `b"it's"` it replies the text `b"it's"`, and of `b"a\x00"` the text `b'a\x00'`.
     pub fn repr_str(&mut self, loans: LoanList) -> Made<LocalReply>
         requires { LoansFit loans }
-        ensures ok { IfOk result (λ r. estep self.old subjects.Own verbs.Repr loans ≡ (self.new, r)) }
+        ensures ok { StepsBy subjects.Own verbs.Repr loans self.old result self.new }
         ensures err { OnErr result (self.new ≡ self.old) }
     {
         step_of(&mut self.exporter, Subject::Own, Verb::Repr, loans)
@@ -204,7 +204,7 @@ impl PyBytes {
     /// Example: in `b"Abc"` the value `b"bc"` replies `Truth(true)`.
     pub fn contains(&mut self, value: Value, loans: LoanList) -> Made<LocalReply>
         requires { LoansFit loans }
-        ensures ok { IfOk result (λ r. estep self.old subjects.Own (verbs.Contains value) loans ≡ (self.new, r)) }
+        ensures ok { StepsBy subjects.Own (verbs.Contains value) loans self.old result self.new }
         ensures err { OnErr result (self.new ≡ self.old) }
     {
         step_of(
@@ -221,7 +221,7 @@ impl PyBytes {
     /// Example: on `b"a,b,c"` the method `MethodName::RemovePrefix` with `b"a,"` replies the bytes `b"b,c"`.
     pub fn call(&mut self, method: MethodCall, loans: LoanList) -> Made<LocalReply>
         requires { LoansFit loans }
-        ensures ok { IfOk result (λ r. estep self.old subjects.Own (verbs.Call method) loans ≡ (self.new, r)) }
+        ensures ok { StepsBy subjects.Own (verbs.Call method) loans self.old result self.new }
         ensures err { OnErr result (self.new ≡ self.old) }
     {
         step_of(
@@ -237,7 +237,7 @@ impl PyBytes {
     /// Example: of new bytes it replies `Iter(0)`, which `PyBytesIterator::of(0)` names.
     pub fn iter(&mut self, loans: LoanList) -> Made<LocalReply>
         requires { LoansFit loans }
-        ensures ok { IfOk result (λ r. estep self.old subjects.Own verbs.Iter loans ≡ (self.new, r)) }
+        ensures ok { StepsBy subjects.Own verbs.Iter loans self.old result self.new }
         ensures err { OnErr result (self.new ≡ self.old) }
     {
         step_of(&mut self.exporter, Subject::Own, Verb::Iter, loans)
@@ -248,7 +248,7 @@ impl PyBytes {
     /// Example: it replies the item 1 after one `as_buffer`, and 0 again once that view is released.
     pub fn exports(&mut self, loans: LoanList) -> Made<LocalReply>
         requires { LoansFit loans }
-        ensures ok { IfOk result (λ r. estep self.old subjects.Own (verbs.Property names.Exports) loans ≡ (self.new, r)) }
+        ensures ok { StepsBy subjects.Own (verbs.Property names.Exports) loans self.old result self.new }
         ensures err { OnErr result (self.new ≡ self.old) }
     {
         step_of(

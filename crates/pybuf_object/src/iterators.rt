@@ -1,9 +1,9 @@
 //! The iterators of bytes and bytearrays.
-ghost use Rattle.std.specs.Prelude.{◌≡◌, [], IfOk, OnErr};
+ghost use Rattle.std.specs.Prelude.{◌≡◌, [], OnErr};
 ghost use Rattle.pybuf_state.specs.Fits.{LoansFit};
 ghost use Rattle.pybuf_command.specs.declared.kinds.Subject.TheVariants as subjects;
 ghost use Rattle.pybuf_command.specs.declared.commands.Verb.TheVariants as verbs;
-ghost use Rattle.pybuf_exporter.specs.Step.{estep};
+ghost use Rattle.pybuf_exporter.specs.Stepping.{StateStepsBy};
 
 use pybuf_buffer::{step_of, step_without_loans};
 use pybuf_command::{LoanList, LocalReply, Subject, Verb};
@@ -54,7 +54,7 @@ impl PyBytesIterator {
     /// `PyMemoryViewIterator::next` is.
     /// Example: over `b"a"` it replies the item 97, and then `Stop`.
     pub fn next(&self, alloc: Global, state: &mut ExporterState) -> Made<LocalReply>
-        ensures ok { IfOk result (λ r. estep state.old.exporter (subjects.Iter self.now) verbs.Next [] ≡ (state.new.exporter, r)) }
+        ensures ok { StateStepsBy (subjects.Iter self.now) verbs.Next [] state.old result state.new }
         ensures err { OnErr result (state.new ≡ state.old) }
         ensures room { state.new.room ≡ state.old.room }
     {
@@ -67,7 +67,7 @@ impl PyBytesIterator {
     /// Refused with `UnknownName` where no iterator over bytes has this number. Nothing of the exporter is changed.
     /// Example: after one `next` over `b"abc"` it replies the item 2.
     pub fn length_hint(&self, alloc: Global, state: &mut ExporterState) -> Made<LocalReply>
-        ensures ok { IfOk result (λ r. estep state.old.exporter (subjects.Iter self.now) verbs.LengthHint [] ≡ (state.new.exporter, r)) }
+        ensures ok { StateStepsBy (subjects.Iter self.now) verbs.LengthHint [] state.old result state.new }
         ensures err { OnErr result (state.new ≡ state.old) }
         ensures room { state.new.room ≡ state.old.room }
     {
@@ -87,7 +87,7 @@ impl PyBytesIterator {
         loans: LoanList,
     ) -> Made<LocalReply>
         requires { LoansFit loans }
-        ensures ok { IfOk result (λ r. estep state.old.exporter (subjects.Iter self.now) (verbs.SetState place) loans ≡ (state.new.exporter, r)) }
+        ensures ok { StateStepsBy (subjects.Iter self.now) (verbs.SetState place) loans state.old result state.new }
         ensures err { OnErr result (state.new ≡ state.old) }
         ensures room { state.new.room ≡ state.old.room }
     {
@@ -142,7 +142,7 @@ impl PyByteArrayIterator {
     /// `PyMemoryViewIterator::next` is.
     /// Example: over `bytearray(b"a")` it replies the item 97; once 98 was appended the item 98; and then `Stop`.
     pub fn next(&self, alloc: Global, state: &mut ExporterState) -> Made<LocalReply>
-        ensures ok { IfOk result (λ r. estep state.old.exporter (subjects.Iter self.now) verbs.Next [] ≡ (state.new.exporter, r)) }
+        ensures ok { StateStepsBy (subjects.Iter self.now) verbs.Next [] state.old result state.new }
         ensures err { OnErr result (state.new ≡ state.old) }
         ensures room { state.new.room ≡ state.old.room }
     {
@@ -155,7 +155,7 @@ impl PyByteArrayIterator {
     /// Refused with `UnknownName` where no iterator over bytes has this number. Nothing of the exporter is changed.
     /// Example: after one `next` over `bytearray(b"abc")` it replies the item 2.
     pub fn length_hint(&self, alloc: Global, state: &mut ExporterState) -> Made<LocalReply>
-        ensures ok { IfOk result (λ r. estep state.old.exporter (subjects.Iter self.now) verbs.LengthHint [] ≡ (state.new.exporter, r)) }
+        ensures ok { StateStepsBy (subjects.Iter self.now) verbs.LengthHint [] state.old result state.new }
         ensures err { OnErr result (state.new ≡ state.old) }
         ensures room { state.new.room ≡ state.old.room }
     {
@@ -175,7 +175,7 @@ impl PyByteArrayIterator {
         loans: LoanList,
     ) -> Made<LocalReply>
         requires { LoansFit loans }
-        ensures ok { IfOk result (λ r. estep state.old.exporter (subjects.Iter self.now) (verbs.SetState place) loans ≡ (state.new.exporter, r)) }
+        ensures ok { StateStepsBy (subjects.Iter self.now) (verbs.SetState place) loans state.old result state.new }
         ensures err { OnErr result (state.new ≡ state.old) }
         ensures room { state.new.room ≡ state.old.room }
     {

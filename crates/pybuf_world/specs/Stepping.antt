@@ -1,5 +1,5 @@
 -- An exporter of a world steps, and the others are lent to it.
-use Rattle.std.specs.Prelude.{ℕ, List, set, Option, Some, None}
+use Rattle.std.specs.Prelude.{ℕ, List, set, slice_get, Option, Some, None}
 use Rattle.pybuf_value.specs.declared.faults.Fault.TheVariants as fault
 use Rattle.pybuf_command.specs.declared.commands.Verb.{Verb}
 use Rattle.pybuf_command.specs.declared.commands.LocalReply.{LocalReply}
@@ -9,7 +9,7 @@ use Rattle.pybuf_state.specs.Exporter.{Exporter}
 use Rattle.pybuf_state.specs.Loans.{given_loan}
 use Rattle.pybuf_exporter.specs.Step.{estep}
 use Rattle.pybuf_world.specs.declared.named.Target.{Target}
-use Rattle.pybuf_world.specs.World.{World, loan_for}
+use Rattle.pybuf_world.specs.World.{World, loan_for, loans_of}
 
 -- what each handle is lent as, to the exporter that has this number
 abbrev pub named_to : World → ℕ → ℕ → Option Loan
@@ -20,3 +20,7 @@ abbrev pub local_step : World → Target → Verb → List (ℕ × Loan) → Opt
 local_step w t v loans (Some e) =
     (record w { exporters = set w.exporters t.exporter (estep e t.subject v loans).0 }, (estep e t.subject v loans).1)
 local_step w t v loans None = (w, local.Refused fault.UnknownName)
+
+-- so with the loans that the command reads
+abbrev pub step_of_own : World → Target → Verb → World × LocalReply
+step_of_own w t v = local_step w t v (loans_of w t.exporter v) (slice_get w.exporters t.exporter)

@@ -14,8 +14,8 @@ use Rattle.pybuf_world.specs.declared.named.Target.{Target}
 use Rattle.pybuf_world.specs.World.{World, handle_of, has_view, handles_with_copy, reply_with_copy, handles_after, reply_after}
 use Rattle.pybuf_world.specs.Sound.{IsSoundWorld}
 
-abbrev pub world_of_tables : Tables → World
-world_of_tables t = record { exporters = t.exporters; handles = t.handles.items }
+abbrev pub world_of : Tables → World
+world_of t = record { exporters = t.exporters; handles = t.handles.items }
 
 -- These are the handles of the exporters, in order.
 pub record AreOwners (w : World) (owners : List ℕ) : Type 0 where
@@ -23,13 +23,21 @@ pub record AreOwners (w : World) (owners : List ℕ) : Type 0 where
   pub first : (i : ℕ) → i < length w.exporters → slice_index owners i ≡ handle_of w i
 
 pub record IsKept (t : Tables) : Type 0 where
-  pub sound : IsSoundWorld (world_of_tables t)
-  pub owned : AreOwners (world_of_tables t) t.owners.items
+  pub sound : IsSoundWorld (world_of t)
+  pub owned : AreOwners (world_of t) t.owners.items
 
 -- The handles of the exporters after a reply. A new exporter gets the next handle.
 abbrev pub owners_after : List ℕ → ℕ → LocalReply → List ℕ
 owners_after owners next (local.Fresh snap) = owners ++ next ∷ []
 owners_after owners next _ = owners
+
+-- so the owners are after a reply of a world that is kept
+abbrev pub OwnersFollow : Tables → LocalReply → Tables → Type 0
+OwnersFollow old r new = new.owners.items ≡ owners_after old.owners.items (length (world_of old).handles) r
+
+-- one exporter more has an owner, which is the next handle
+abbrev pub GainsOwner : Tables → Tables → Type 0
+GainsOwner old new = new.owners.items ≡ old.owners.items ++ length (world_of old).handles ∷ []
 
 -- The exporter is there, and the snap is the copy of its subject.
 abbrev pub IsCopyAt : Option Exporter → Subject → Snap → Type 0
@@ -47,6 +55,10 @@ with_made viewed w made = (
 abbrev pub with_copy : World → Option Exporter → Subject → Snap → World × Reply
 with_copy w (Some e) s snap = with_made (has_view snap.kind) w (made_of (is_readonly_subject e s) snap)
 with_copy w None s snap = (w, reply.Refused fault.UnknownName)
+
+-- so with the copy of a subject of an exporter, by its number
+abbrev pub with_copy_of : World → ℕ → Subject → Snap → World × Reply
+with_copy_of w exporter s snap = with_copy w (slice_get w.exporters exporter) s snap
 
 -- The reply makes a new exporter.
 abbrev pub IsFresh : LocalReply → Type 0

@@ -1,5 +1,5 @@
 -- Worlds: exporters, and the handles that name them, their views and their iterators.
-use Rattle.std.specs.Prelude.{ℕ, ◌+◌, ◌==◌, Bool, true, false, List, [], ◌∷◌, ◌++◌, length, map, set, slice_get, nat_lt, Option, Some, None, Result, Ok, Err, if◌then◌else◌}
+use Rattle.std.specs.Prelude.{ℕ, ◌+◌, ◌==◌, Bool, true, false, List, [], ◌∷◌, ◌++◌, length, map, set, slice_get, nat_lt, Option, Some, None, Result, Ok, Err, if◌then◌else◌, ◌≡◌, MatchResult}
 use Rattle.std.specs.List.{list_all, position_or_len}
 use Rattle.pybuf_value.specs.declared.faults.Fault.{Fault}
 use Rattle.pybuf_value.specs.declared.faults.Fault.TheVariants as fault
@@ -255,3 +255,7 @@ is_name_of_view None = false
 -- whether a handle was given and names a view
 abbrev pub names_view : World → ℕ → Bool
 names_view w handle = is_name_of_view (slice_get w.handles handle)
+
+-- a call gives what is due, or refuses as is due
+abbrev pub GivesOrRefuses : {A W : Type 0} → Result W Fault → W → Result A Fault → Type 0
+GivesOrRefuses due given result = MatchResult result (λ _. due ≡ Ok given) (λ f. due ≡ Err f)

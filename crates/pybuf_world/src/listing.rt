@@ -1,6 +1,7 @@
 //! The exporters of a world, in a list.
-ghost use Rattle.std.specs.Prelude.{◌≡◌, ◌<◌, ◌++◌, [], ◌∷◌, length, set, slice_get, Some, Ok, Err, OnOk, OnErr, MatchResult};
+ghost use Rattle.std.specs.Prelude.{◌≡◌, ◌<◌, ◌++◌, [], ◌∷◌, length, set, slice_get, Some, OnOk, OnErr};
 ghost use Rattle.std.specs.Option.{option_copied};
+ghost use Rattle.pybuf_world.specs.World.{GivesOrRefuses};
 
 use pybuf_exporter::ExporterState;
 use pybuf_value::{Fault, Made};
@@ -105,7 +106,7 @@ impl ExporterList {
     /// Example: `list.release_view(0, 0)` is `Err(Fault::UnknownName)` where the exporter 0 has no view.
     pub fn release_view(&mut self, number: usize, view: usize) -> Result<(), Fault>
         requires { number < length self.old }
-        ensures exact { MatchResult result (λ _. released_among self.old number view (slice_get self.old number) ≡ Ok self.new) (λ f. released_among self.old number view (slice_get self.old number) ≡ Err f) }
+        ensures exact { GivesOrRefuses (released_among self.old number view (slice_get self.old number)) self.new result }
         ensures err { OnErr result (self.new ≡ self.old) }
     {
         let holder = &mut self.exporters[number];

@@ -1,11 +1,12 @@
 //! What is kept of a world, and the work on it.
-ghost use Rattle.std.specs.Prelude.{◌≡◌, ◌<◌, ◌+◌, ◌++◌, [], ◌∷◌, slice_get, slice_index, length, IfOk, OnOk, OnErr, MatchResult, vec_len, vec_capacity};
+ghost use Rattle.std.specs.Prelude.{◌≡◌, ◌<◌, ◌+◌, ◌++◌, [], ◌∷◌, slice_get, slice_index, length, IfOk, OnOk, OnErr, vec_len, vec_capacity};
 ghost use Rattle.std.specs.Prelude.{true, false};
-ghost use Rattle.pybuf_world.specs.World.{has_view};
+ghost use Rattle.pybuf_world.specs.World.{has_view, GivesOrRefuses};
 ghost use Rattle.pybuf_value.specs.Halting.{outcome_of};
 ghost use Rattle.pybuf_value.specs.Snaps.{content_of_named};
 ghost use Rattle.pybuf_bytes.specs.Options.{bytes_of_options};
-ghost use Rattle.pybuf_world.specs.Stepping.{local_step};
+ghost use Rattle.pybuf_world.specs.Tables.{OwnersFollow, GainsOwner, with_copy_of};
+ghost use Rattle.pybuf_world.specs.Stepping.{step_of_own};
 
 use crate::laws::exporter_laws;
 use crate::listing::ExporterList;
@@ -78,13 +79,13 @@ fn push_before_last(handles: &mut Vec<Named>, named: Named)
 }
 
 impl Tables {
-    ghost use Rattle.pybuf_world.specs.Tables.{world_of_tables, AreOwners, IsKept, owners_after, IsCopyAt, IfFresh, IsFresh, with_made, with_copy, answered};
+    ghost use Rattle.pybuf_world.specs.Tables.{world_of, AreOwners, IsKept, IsCopyAt, IfFresh, IsFresh, with_made, answered};
     ghost use Rattle.pybuf_world.specs.World as spec;
     ghost use Rattle.pybuf_world.specs.Sound.{StopsAt};
 
     /// Nothing. Takes no memory.
     pub fn new(alloc: Global) -> Tables
-        ensures world { world_of_tables result ≡ spec.empty_world }
+        ensures world { world_of result ≡ spec.empty_world }
         ensures kept { IsKept result }
     {
         Tables {
@@ -97,23 +98,23 @@ impl Tables {
 
     /// The number of handles that were given, which is the next one.
     pub fn next_handle(&self) -> u64
-        ensures { result ≡ length (world_of_tables self.now).handles }
+        ensures { result ≡ length (world_of self.now).handles }
     {
         self.handles.len() as u64
     }
 
     /// The number of exporters, which the next one gets.
     fn next_exporter(&self) -> usize
-        ensures { result ≡ length (world_of_tables self.now).exporters }
+        ensures { result ≡ length (world_of self.now).exporters }
     {
         self.exporters.len()
     }
 
     /// A new exporter with no view, and its handle.
     fn add_exporter(&mut self, exporter: ExporterState) -> Made<Reply>
-        ensures ok { IfOk result (λ r. with_made false (world_of_tables self.old) exporter.exporter ≡ (world_of_tables self.new, r)) }
-        ensures err { OnErr result (world_of_tables self.new ≡ world_of_tables self.old) }
-        ensures owners { IfOk result (λ r. self.new.owners.items ≡ self.old.owners.items ++ length (world_of_tables self.old).handles ∷ []) }
+        ensures ok { IfOk result (λ r. with_made false (world_of self.old) exporter.exporter ≡ (world_of self.new, r)) }
+        ensures err { OnErr result (world_of self.new ≡ world_of self.old) }
+        ensures owners { IfOk result (λ r. GainsOwner self.old self.new) }
         ensures owners_kept { OnErr result (self.new.owners.items ≡ self.old.owners.items) }
     {
         let handle = self.next_handle();
@@ -128,9 +129,9 @@ impl Tables {
 
     /// A new exporter with one view, and the handles of both.
     fn add_viewed(&mut self, exporter: ExporterState) -> Made<Reply>
-        ensures ok { IfOk result (λ r. with_made true (world_of_tables self.old) exporter.exporter ≡ (world_of_tables self.new, r)) }
-        ensures err { OnErr result (world_of_tables self.new ≡ world_of_tables self.old) }
-        ensures owners { IfOk result (λ r. self.new.owners.items ≡ self.old.owners.items ++ length (world_of_tables self.old).handles ∷ []) }
+        ensures ok { IfOk result (λ r. with_made true (world_of self.old) exporter.exporter ≡ (world_of self.new, r)) }
+        ensures err { OnErr result (world_of self.new ≡ world_of self.old) }
+        ensures owners { IfOk result (λ r. GainsOwner self.old self.new) }
         ensures owners_kept { OnErr result (self.new.owners.items ≡ self.old.owners.items) }
     {
         let own = self.next_handle();
@@ -155,9 +156,9 @@ impl Tables {
     /// A new exporter and its handle, where the handles of the exporters stay what they are.
     fn add(&mut self, exporter: ExporterState) -> Made<Reply>
         requires { IsKept self.old }
-        ensures ok { IfOk result (λ r. spec.with_exporter (world_of_tables self.old) exporter.exporter ≡ (world_of_tables self.new, r)) }
-        ensures err { OnErr result (world_of_tables self.new ≡ world_of_tables self.old) }
-        ensures owned { AreOwners (world_of_tables self.new) self.new.owners.items }
+        ensures ok { IfOk result (λ r. spec.with_exporter (world_of self.old) exporter.exporter ≡ (world_of self.new, r)) }
+        ensures err { OnErr result (world_of self.new ≡ world_of self.old) }
+        ensures owned { AreOwners (world_of self.new) self.new.owners.items }
     {
         match self.add_exporter(exporter) {
             Ok(reply) => Ok(reply),
@@ -167,7 +168,7 @@ impl Tables {
 
     /// Whether all of these handles were given.
     fn are_given(&self, handles: &[u64]) -> bool
-        ensures { result ≡ spec.are_given (world_of_tables self.now) handles.now }
+        ensures { result ≡ spec.are_given (world_of self.now) handles.now }
     {
         let count = self.next_handle();
         handles.iter().all(|handle| *handle < count)
@@ -175,7 +176,7 @@ impl Tables {
 
     /// What a handle names, as it stands.
     fn snap_for(&self, handle: u64) -> Made<Option<Snap>>
-        ensures { IfOk result (λ snap. snap ≡ spec.snap_for (world_of_tables self.now) handle) }
+        ensures { IfOk result (λ snap. snap ≡ spec.snap_for (world_of self.now) handle) }
     {
         let Some(named) = self.handles.get(handle as usize).copied() else {
             return Ok(None);
@@ -189,7 +190,7 @@ impl Tables {
     /// The bytes that a new exporter is made of. Those of a handle are copied once, and where no handle
     /// is read none is looked at.
     fn bytes_of(&self, options: &ByteInnerNewOptions) -> Tried<ByteList>
-        ensures { IfOk result (λ outcome. outcome ≡ outcome_of (spec.bytes_of_new (world_of_tables self.now) options.now)) }
+        ensures { IfOk result (λ outcome. outcome ≡ outcome_of (spec.bytes_of_new (world_of self.now) options.now)) }
     {
         match handle_alone(options) {
             Some(handle) => {
@@ -203,9 +204,9 @@ impl Tables {
     /// A new exporter of bytes.
     fn make(&mut self, kind: ExporterKind, options: &ByteInnerNewOptions) -> Made<Reply>
         requires { IsKept self.old }
-        ensures ok { IfOk result (λ r. spec.step_of_new (world_of_tables self.old) kind options.now ≡ (world_of_tables self.new, r)) }
-        ensures err { OnErr result (world_of_tables self.new ≡ world_of_tables self.old) }
-        ensures owned { AreOwners (world_of_tables self.new) self.new.owners.items }
+        ensures ok { IfOk result (λ r. spec.step_of_new (world_of self.old) kind options.now ≡ (world_of self.new, r)) }
+        ensures err { OnErr result (world_of self.new ≡ world_of self.old) }
+        ensures owned { AreOwners (world_of self.new) self.new.owners.items }
     {
         let handles = handles_of_options(self.alloc, options)?;
         if !self.are_given(handles.as_slice()) {
@@ -220,9 +221,9 @@ impl Tables {
     /// What the exporter of a target does. It is taken out of the table for the step, and the others are lent
     /// to it. Takes no memory of its own.
     fn local_step(&mut self, target: Target, verb: &Verb) -> Made<LocalReply>
-        requires there { target.exporter < length (world_of_tables self.old).exporters }
-        ensures ok { IfOk result (λ r. local_step (world_of_tables self.old) target verb.now (spec.loans_of (world_of_tables self.old) target.exporter verb.now) (slice_get (world_of_tables self.old).exporters target.exporter) ≡ (world_of_tables self.new, r)) }
-        ensures err { OnErr result (world_of_tables self.new ≡ world_of_tables self.old) }
+        requires there { target.exporter < length (world_of self.old).exporters }
+        ensures ok { IfOk result (λ r. step_of_own (world_of self.old) target verb.now ≡ (world_of self.new, r)) }
+        ensures err { OnErr result (world_of self.new ≡ world_of self.old) }
         ensures owners { self.new.owners.items ≡ self.old.owners.items }
         ensures handles { self.new.handles ≡ self.old.handles }
     {
@@ -242,10 +243,10 @@ impl Tables {
     /// An exporter that is made of the copy of a subject, and the handles of it and of its view, where
     /// it has one.
     fn add_copy(&mut self, exporter: usize, subject: Subject, copy: Snap) -> Made<Reply>
-        requires { IsCopyAt (slice_get (world_of_tables self.old).exporters exporter) subject copy }
-        ensures ok { IfOk result (λ r. with_copy (world_of_tables self.old) (slice_get (world_of_tables self.old).exporters exporter) subject copy ≡ (world_of_tables self.new, r)) }
-        ensures err { OnErr result (world_of_tables self.new ≡ world_of_tables self.old) }
-        ensures owners { IfOk result (λ r. self.new.owners.items ≡ self.old.owners.items ++ length (world_of_tables self.old).handles ∷ []) }
+        requires { IsCopyAt (slice_get (world_of self.old).exporters exporter) subject copy }
+        ensures ok { IfOk result (λ r. with_copy_of (world_of self.old) exporter subject copy ≡ (world_of self.new, r)) }
+        ensures err { OnErr result (world_of self.new ≡ world_of self.old) }
+        ensures owners { IfOk result (λ r. GainsOwner self.old self.new) }
         ensures owners_kept { OnErr result (self.new.owners.items ≡ self.old.owners.items) }
     {
         let is_viewed = has_view(copy.kind);
@@ -264,12 +265,12 @@ impl Tables {
     /// memory run out.
     fn answer(&mut self, target: Target, reply: LocalReply) -> Made<Reply>
         requires room { vec_len self.old.handles < vec_capacity self.old.handles }
-        requires owner { slice_index self.old.owners.items target.exporter ≡ spec.handle_of (world_of_tables self.old) target.exporter }
-        requires copy { IfFresh reply (IsCopyAt (slice_get (world_of_tables self.old).exporters target.exporter) target.subject) }
-        ensures ok { IfOk result (λ r. answered (world_of_tables self.old) target reply ≡ (world_of_tables self.new, r)) }
-        ensures err { OnErr result (world_of_tables self.new ≡ world_of_tables self.old) }
+        requires owner { slice_index self.old.owners.items target.exporter ≡ spec.handle_of (world_of self.old) target.exporter }
+        requires copy { IfFresh reply (IsCopyAt (slice_get (world_of self.old).exporters target.exporter) target.subject) }
+        ensures ok { IfOk result (λ r. answered (world_of self.old) target reply ≡ (world_of self.new, r)) }
+        ensures err { OnErr result (world_of self.new ≡ world_of self.old) }
         ensures only_fresh { OnErr result (IsFresh reply) }
-        ensures owners { IfOk result (λ _. self.new.owners.items ≡ owners_after self.old.owners.items (length (world_of_tables self.old).handles) reply) }
+        ensures owners { IfOk result (λ _. OwnersFollow self.old reply self.new) }
         ensures owners_kept { OnErr result (self.new.owners.items ≡ self.old.owners.items) }
     {
         let exporter = target.exporter;
@@ -307,9 +308,9 @@ impl Tables {
     /// What a target does, with the loans by the world as it is.
     fn step_of_target(&mut self, target: Target, verb: &Verb) -> Made<Reply>
         requires kept { IsKept self.old }
-        ensures ok { IfOk result (λ r. spec.step_of_target (world_of_tables self.old) target verb.now ≡ (world_of_tables self.new, r)) }
-        ensures err { OnErr result (world_of_tables self.new ≡ world_of_tables self.old) }
-        ensures owners { IfOk result (λ _. self.new.owners.items ≡ owners_after self.old.owners.items (length (world_of_tables self.old).handles) (local_step (world_of_tables self.old) target verb.now (spec.loans_of (world_of_tables self.old) target.exporter verb.now) (slice_get (world_of_tables self.old).exporters target.exporter)).1) }
+        ensures ok { IfOk result (λ r. spec.step_of_target (world_of self.old) target verb.now ≡ (world_of self.new, r)) }
+        ensures err { OnErr result (world_of self.new ≡ world_of self.old) }
+        ensures owners { IfOk result (λ _. OwnersFollow self.old (step_of_own (world_of self.old) target verb.now).1 self.new) }
         ensures owners_kept { OnErr result (self.new.owners.items ≡ self.old.owners.items) }
     {
         fresh_replies_are_copies();
@@ -325,8 +326,8 @@ impl Tables {
     /// Carries out a command, by which the world stays sound.
     pub fn step(&mut self, command: &Command) -> Made<Reply>
         requires { IsKept self.old }
-        ensures ok { IfOk result (λ r. spec.wstep (world_of_tables self.old) command.now ≡ (world_of_tables self.new, r)) }
-        ensures err { OnErr result (world_of_tables self.new ≡ world_of_tables self.old) }
+        ensures ok { IfOk result (λ r. spec.wstep (world_of self.old) command.now ≡ (world_of self.new, r)) }
+        ensures err { OnErr result (world_of self.new ≡ world_of self.old) }
         ensures kept { IsKept self.new }
     {
         exporter_laws();
@@ -356,9 +357,9 @@ impl Tables {
     /// Carries out the commands in order, and adds a reply for each.
     fn run_onto(&mut self, commands: &[Command], replies: &mut Vec<Reply>) -> Made<()>
         requires { IsKept self.old }
-        ensures world { OnOk result (world_of_tables self.new ≡ spec.world_after_all (world_of_tables self.old) commands.now) }
-        ensures replies { OnOk result (replies.new.items ≡ replies.old.items ++ spec.replies_of (world_of_tables self.old) commands.now) }
-        ensures stopped { OnErr result (StopsAt (world_of_tables self.old) commands.now (world_of_tables self.new) replies.old.items replies.new.items) }
+        ensures world { OnOk result (world_of self.new ≡ spec.world_after_all (world_of self.old) commands.now) }
+        ensures replies { OnOk result (replies.new.items ≡ replies.old.items ++ spec.replies_of (world_of self.old) commands.now) }
+        ensures stopped { OnErr result (StopsAt (world_of self.old) commands.now (world_of self.new) replies.old.items replies.new.items) }
         ensures kept { IsKept self.new }
     {
         for command in commands {
@@ -372,9 +373,9 @@ impl Tables {
     /// The same, onto a list of replies.
     pub fn run(&mut self, commands: &[Command], replies: &mut ReplyList) -> Made<()>
         requires { IsKept self.old }
-        ensures world { OnOk result (world_of_tables self.new ≡ spec.world_after_all (world_of_tables self.old) commands.now) }
-        ensures replies { OnOk result (replies.new ≡ replies.old ++ spec.replies_of (world_of_tables self.old) commands.now) }
-        ensures stopped { OnErr result (StopsAt (world_of_tables self.old) commands.now (world_of_tables self.new) replies.old replies.new) }
+        ensures world { OnOk result (world_of self.new ≡ spec.world_after_all (world_of self.old) commands.now) }
+        ensures replies { OnOk result (replies.new ≡ replies.old ++ spec.replies_of (world_of self.old) commands.now) }
+        ensures stopped { OnErr result (StopsAt (world_of self.old) commands.now (world_of self.new) replies.old replies.new) }
         ensures kept { IsKept self.new }
     {
         let mut answered = mem::replace(replies, ReplyList::new(self.alloc)).into_vec();
@@ -385,8 +386,8 @@ impl Tables {
 
     /// Releases the view that a handle names.
     fn release_named(&mut self, handle: u64) -> Result<(), Fault>
-        ensures exact { MatchResult result (λ _. spec.released_by (world_of_tables self.old) handle ≡ Ok (world_of_tables self.new)) (λ f. spec.released_by (world_of_tables self.old) handle ≡ Err f) }
-        ensures err { OnErr result (world_of_tables self.new ≡ world_of_tables self.old) }
+        ensures exact { GivesOrRefuses (spec.released_by (world_of self.old) handle) (world_of self.new) result }
+        ensures err { OnErr result (world_of self.new ≡ world_of self.old) }
         ensures owners { self.new.owners.items ≡ self.old.owners.items }
     {
         let named = self.handles.get(handle as usize).copied();
@@ -405,8 +406,8 @@ impl Tables {
     /// The same, by which the world stays sound.
     pub fn release(&mut self, handle: u64) -> Result<(), Fault>
         requires { IsKept self.old }
-        ensures exact { MatchResult result (λ _. spec.released_by (world_of_tables self.old) handle ≡ Ok (world_of_tables self.new)) (λ f. spec.released_by (world_of_tables self.old) handle ≡ Err f) }
-        ensures err { OnErr result (world_of_tables self.new ≡ world_of_tables self.old) }
+        ensures exact { GivesOrRefuses (spec.released_by (world_of self.old) handle) (world_of self.new) result }
+        ensures err { OnErr result (world_of self.new ≡ world_of self.old) }
         ensures kept { IsKept self.new }
     {
         release_is_safe();

@@ -1,5 +1,6 @@
 //! Worlds of exporters, and the handles that name them and their views.
-ghost use Rattle.std.specs.Prelude.{◌≡◌, ◌↔◌, ◌++◌, length, true, IfOk, IsOk, IfErr, OnOk, OnErr, MatchResult};
+ghost use Rattle.std.specs.Prelude.{◌≡◌, ◌↔◌, ◌++◌, length, true, IfOk, IsOk, IfErr, OnOk, OnErr};
+ghost use Rattle.pybuf_world.specs.World.{GivesOrRefuses};
 
 use crate::laws::{exporter_laws, releases_are_refused_by_name};
 use crate::tables::Tables;
@@ -18,11 +19,11 @@ pub struct World {
 
 impl Model for World {
     ghost use Rattle.pybuf_world.specs.World.{World};
-    ghost use Rattle.pybuf_world.specs.Tables.{world_of_tables, IsKept};
+    ghost use Rattle.pybuf_world.specs.Tables.{world_of, IsKept};
 
     ghost Value = { World };
 
-    ghost view = { λ w. world_of_tables w.tables };
+    ghost view = { λ w. world_of w.tables };
 
     ghost invariant = { λ w. IsKept w.tables };
 }
@@ -94,7 +95,7 @@ impl World {
     /// then.
     /// Example: `world.release(1)` is `Ok(())` where `h1` names a view, and `Err(Fault::UnknownName)` where it was never given.
     pub fn release(&mut self, handle: u64) -> Result<(), Fault>
-        ensures exact { MatchResult result (λ _. released_by self.old handle ≡ Ok self.new) (λ f. released_by self.old handle ≡ Err f) }
+        ensures exact { GivesOrRefuses (released_by self.old handle) self.new result }
         ensures named { IsOk result ↔ (names_view self.old handle ≡ true) }
         ensures refused { IfErr result (λ f. f ≡ faults.UnknownName) }
         ensures err { OnErr result (self.new ≡ self.old) }

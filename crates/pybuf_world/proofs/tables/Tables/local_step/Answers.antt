@@ -5,7 +5,7 @@ use Rattle.pybuf_state.specs.Exporter.{Exporter}
 use Rattle.pybuf_exporter.specs.Step.{estep_by}
 use Rattle.pybuf_exporter.specs.Stored.{StoredExporter}
 use Rattle.pybuf_world.specs.declared.named.Named.{Named}
-use Rattle.pybuf_world.specs.Tables.{world_of_tables}
+use Rattle.pybuf_world.specs.Tables.{world_of}
 use Rattle.pybuf_world.specs.World.{World, loans_of}
 use Rattle.pybuf_world.specs.Stepping.{named_to, local_step}
 use Rattle.pybuf_world.proofs.Among.{stepped_among, as_before, if_ok, on_err}
@@ -13,7 +13,7 @@ use Rattle.pybuf_world.proofs.tables.Tables.local_step.Goals as goal
 
 pub returns-clause-ok : goal.returns-clause-ok
 returns-clause-ok c =
-    let w : World = world_of_tables c.args.self.now in
+    let w : World = world_of c.args.self.now in
     let t = c.args.target in
     let dest : Exporter = c.empty-nothing.result.exporter in
     let worker : Exporter = c.replace-worker.result.exporter in
@@ -31,7 +31,7 @@ returns-clause-ok c =
 
 pub returns-clause-err : goal.returns-clause-err
 returns-clause-err c =
-    let w : World = world_of_tables c.args.self.now in
+    let w : World = world_of c.args.self.now in
     let t = c.args.target in
     let dest : Exporter = c.empty-nothing.result.exporter in
     let worker : Exporter = c.replace-worker.result.exporter in
