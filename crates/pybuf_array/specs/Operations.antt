@@ -3,6 +3,7 @@ use Rattle.std.specs.Prelude.{◌≡◌, ℕ, ◌<◌, ◌≤◌, Bool, true, fa
 use Rattle.pybuf_value.specs.declared.faults.Fault.{Fault}
 use Rattle.pybuf_value.specs.declared.halt.Halt.{Halt}
 use Rattle.pybuf_value.specs.declared.halt.Halt.TheVariants as halt
+use Rattle.pybuf_value.specs.Halting.{Settled, SettledAtOnce}
 use Rattle.pybuf_numbers.specs.Numbers.{bytes_of}
 use Rattle.pybuf_array.specs.declared.operations.ArrayOp.{ArrayOp}
 use Rattle.pybuf_array.specs.declared.operations.ArrayOp.TheVariants as op
@@ -89,14 +90,11 @@ KeepsLengthWhileViewed a ops =
 -- The answer is what a definition says, and the array is the one that it says. If the definition refuses, the
 -- answer is that refusal. If it refuses or memory runs out, the array is as before.
 abbrev pub Settles : {X : Type 0} → Result (Array × X) Fault → Array → Result X Halt → Array → Type 0
-Settles wanted old (Ok x) new = wanted ≡ Ok (new, x)
-Settles wanted old (Err (halt.Refused f)) new = (wanted ≡ Err f) × (new ≡ old)
-Settles wanted old (Err halt.NoMemory) new = new ≡ old
+Settles wanted old result new = Settled result (λ x. (new, x)) (new ≡ old) (new ≡ old) wanted
 
 -- the same for a call that takes no memory
 abbrev pub SettlesAtOnce : {X : Type 0} → Result (Array × X) Fault → Array → Result X Fault → Array → Type 0
-SettlesAtOnce wanted old (Ok x) new = wanted ≡ Ok (new, x)
-SettlesAtOnce wanted old (Err f) new = (wanted ≡ Err f) × (new ≡ old)
+SettlesAtOnce wanted old result new = SettledAtOnce result (λ x. (new, x)) (new ≡ old) wanted
 
 -- an answer as a reply, unless memory ran out
 abbrev pub Closes : Result ArrayReply Halt → Result ArrayReply NoMemory → Type 0

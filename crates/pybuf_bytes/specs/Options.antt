@@ -10,6 +10,7 @@ use Rattle.pybuf_value.specs.Refusing.{◌>>=◌, unless}
 use Rattle.pybuf_value.specs.Numbers.{number_of, fitted_number}
 use Rattle.pybuf_value.specs.Texts.{text_in, is_ascii}
 use Rattle.pybuf_value.specs.Snaps.{bytes_in}
+use Rattle.pybuf_command.specs.declared.options.ByteInnerNewOptions.{ByteInnerNewOptions}
 
 -- ---- a source alone
 
@@ -76,3 +77,7 @@ bytes_of_options pairs source encoding errors = do
   encoding ← text_given encoding
   errors ← text_given errors
   bytes_by pairs source encoding errors
+
+-- the bytes that options ask for
+abbrev pub bytes_asked : List (ℕ × Snap) → ByteInnerNewOptions → Result (List ℕ) Fault
+bytes_asked pairs options = bytes_of_options pairs options.source options.encoding options.errors

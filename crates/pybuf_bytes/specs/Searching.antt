@@ -1,6 +1,8 @@
 -- Searches and cuts, by their arguments.
-use Rattle.std.specs.Prelude.{◌≡◌, ℕ, ℤ, ◌++◌, Bool, List, length, Option, None, Some, Result, Ok, Err}
+use Rattle.std.specs.Prelude.{◌≡◌, ◌≤◌, ℕ, ℤ, ◌++◌, Bool, List, length, Option, None, Some, Result, Ok, Err}
+use Rattle.std.specs.Borrow.{Bor}
 use Rattle.std.specs.Global.{Vec}
+use Rattle.pybuf_value.specs.Halting.{GivesOutcome}
 use Rattle.std.specs.declared.ops.Range.{Range}
 use Rattle.pybuf_value.specs.declared.faults.Fault.{Fault}
 use Rattle.pybuf_value.specs.declared.faults.Fault.TheVariants as fault
@@ -19,7 +21,7 @@ use Rattle.pybuf_search.specs.Parts.{split_parts, rsplit_parts, partition_of, rp
 use Rattle.pybuf_letters.specs.Blanks.{blank_parts, blank_rparts}
 use Rattle.pybuf_bytes.specs.declared.needles.Needle.{Needle}
 use Rattle.pybuf_search.specs.Bounds.{adjusted}
-use Rattle.pybuf_search.specs.Ranges.{place_in_range, number_in_range, IsPlaceInRange}
+use Rattle.pybuf_search.specs.Ranges.{place_in_range, number_in_range, IsPlaceInRange, IsSearch}
 use Rattle.pybuf_search.specs.Separators.{by_separator}
 use Rattle.pybuf_bytes.specs.Needles.{needle_bytes}
 
@@ -46,6 +48,23 @@ abbrev pub find_of : (List ℕ → List ℕ → Option ℕ) → Needle → Optio
 find_of search sub start end bytes = do
   needle ← needle_bytes sub
   Ok (place_in_range search bytes needle (adjusted start end (length bytes)))
+
+-- the place that a search finds for these bytes between two bounds
+abbrev pub place_between : (List ℕ → List ℕ → Option ℕ) → List ℕ → Option ℤ → Option ℤ → List ℕ → Option ℕ
+place_between search sub start end bytes = place_in_range search bytes sub (adjusted start end (length bytes))
+
+-- the number of their matches there
+abbrev pub number_between : List ℕ → Option ℤ → Option ℤ → List ℕ → ℕ
+number_between sub start end bytes = number_in_range bytes sub (adjusted start end (length bytes))
+
+-- a search of a closure finds no place past the end of what it is lent
+abbrev pub FindsInside : (Bor (List ℕ) → Bor (List ℕ) → Option ℕ → Type 0) → Type 0
+FindsInside post = (part : Bor (List ℕ)) (needle : Bor (List ℕ)) (place : ℕ) → post part needle (Some place) → place ≤ length part.now
+
+-- where a closure is a search, the answer is the place that this search finds between two bounds
+abbrev pub FindsAsSearch : {E : Type 0} → (Bor (List ℕ) → Bor (List ℕ) → Option ℕ → Type 0) → Needle → Option ℤ → Option ℤ → List ℕ → Result (Outcome (Option ℕ)) E → Type 0
+FindsAsSearch post sub start end bytes result =
+    (search : List ℕ → List ℕ → Option ℕ) → IsSearch post search → GivesOutcome (find_of search sub start end bytes) result
 
 -- What is found between two bounds, if `answers` says what a search may answer for bytes and a needle. It is a place in
 -- the range, or the refusal of the needle, whatever the search may answer.

@@ -1,5 +1,5 @@
 //! Bytes that are lent, with Python's methods of strings of bytes by plain arguments.
-ghost use Rattle.std.specs.Prelude.{◌≡◌, [], length, Ok, IfOk, ok_or};
+ghost use Rattle.std.specs.Prelude.{◌≡◌, [], Ok, IfOk, ok_or};
 ghost use Rattle.std.specs.Option.{option_copied};
 ghost use Rattle.pybuf_value.specs.declared.faults.Fault as faults;
 ghost use Rattle.pybuf_value.specs.declared.values.Scalar.TheVariants as scalars;
@@ -7,12 +7,10 @@ ghost use Rattle.pybuf_value.specs.declared.values.Value.TheVariants as values;
 ghost use Rattle.pybuf_value.specs.Halting.{Gives};
 ghost use Rattle.pybuf_value.specs.Settling.{GivesItems};
 ghost use Rattle.pybuf_search.specs.Affixes.{startswith_of, endswith_of};
-ghost use Rattle.pybuf_search.specs.Bounds.{adjusted};
 ghost use Rattle.pybuf_search.specs.Places.{first_place, last_place};
-ghost use Rattle.pybuf_search.specs.Ranges.{place_in_range, number_in_range};
 ghost use Rattle.pybuf_shaping.specs.Replacing.{count_given, replacement};
 ghost use Rattle.pybuf_bytes.specs.ByteStrs.{str_bytes};
-ghost use Rattle.pybuf_bytes.specs.Searching.{split_of};
+ghost use Rattle.pybuf_bytes.specs.Searching.{split_of, place_between, number_between};
 ghost use Rattle.pybuf_bytes.specs.Shaping.{decoded};
 
 use crate::decoding::{DecodeArgs, bytes_decode};
@@ -67,7 +65,7 @@ impl<'a> ByteStr<'a> {
     ///
     /// Example: `ByteStr::new(b"abcabc").find(b"bc", Some(2), None)` is `Some(4)`.
     pub fn find(self, sub: &[u8], start: Option<isize>, end: Option<isize>) -> Option<usize>
-        ensures { result ≡ place_in_range first_place (str_bytes self.entry) sub.now (adjusted start end (length (str_bytes self.entry))) }
+        ensures { result ≡ place_between first_place sub.now start end (str_bytes self.entry) }
     {
         let range = adjust_indices(wide(start), wide(end), self.bytes.len());
         first_place_in_range(self.bytes, sub, range)
@@ -77,7 +75,7 @@ impl<'a> ByteStr<'a> {
     ///
     /// Example: `ByteStr::new(b"abcabc").rfind(b"bc", None, None)` is `Some(4)`.
     pub fn rfind(self, sub: &[u8], start: Option<isize>, end: Option<isize>) -> Option<usize>
-        ensures { result ≡ place_in_range last_place (str_bytes self.entry) sub.now (adjusted start end (length (str_bytes self.entry))) }
+        ensures { result ≡ place_between last_place sub.now start end (str_bytes self.entry) }
     {
         let range = adjust_indices(wide(start), wide(end), self.bytes.len());
         last_place_in_range(self.bytes, sub, range)
@@ -89,7 +87,7 @@ impl<'a> ByteStr<'a> {
     ///
     /// Example: `ByteStr::new(b"abc").index(b"x", None, None)` is `Err(Fault::Value)`.
     pub fn index(self, sub: &[u8], start: Option<isize>, end: Option<isize>) -> Result<usize, Fault>
-        ensures { result ≡ ok_or (place_in_range first_place (str_bytes self.entry) sub.now (adjusted start end (length (str_bytes self.entry)))) faults.Fault.Value }
+        ensures { result ≡ ok_or (place_between first_place sub.now start end (str_bytes self.entry)) faults.Fault.Value }
     {
         match self.find(sub, start, end) {
             Some(place) => Ok(place),
@@ -101,7 +99,7 @@ impl<'a> ByteStr<'a> {
     ///
     /// Example: `ByteStr::new(b"aaaa").count(b"aa", None, None)` is 2.
     pub fn count(self, sub: &[u8], start: Option<isize>, end: Option<isize>) -> usize
-        ensures { result ≡ number_in_range (str_bytes self.entry) sub.now (adjusted start end (length (str_bytes self.entry))) }
+        ensures { result ≡ number_between sub.now start end (str_bytes self.entry) }
     {
         let range = adjust_indices(wide(start), wide(end), self.bytes.len());
         number_in_range(self.bytes, sub, range)

@@ -135,7 +135,7 @@ fn bytes_of_options<L: Lender>(
     options: &ByteInnerNewOptions,
     lender: &L,
 ) -> Result<PyBytesInner, Halt>
-    ensures { Gives (spec.bytes_of_options (L.pairs lender.now) options.now.source options.now.encoding options.now.errors) result }
+    ensures { Gives (spec.bytes_asked (L.pairs lender.now) options.now) result }
 {
     let encoding = text_given(&options.encoding)?;
     let errors = text_given(&options.errors)?;
@@ -148,7 +148,7 @@ fn bytes_answered<L: Lender>(
     options: &ByteInnerNewOptions,
     lender: &L,
 ) -> Tried<PyBytesInner>
-    ensures { GivesOutcome (spec.bytes_of_options (L.pairs lender.now) options.now.source options.now.encoding options.now.errors) result }
+    ensures { GivesOutcome (spec.bytes_asked (L.pairs lender.now) options.now) result }
 {
     tried(bytes_of_options(alloc, options, lender))
 }
@@ -173,7 +173,7 @@ pub trait NewOptions {
     ///
     /// Example: of the text `é` with the encoding `utf-8` it gives `b"\xc3\xa9"`.
     fn get_bytes<L: Lender>(&self, alloc: Global, lender: &L) -> Tried<PyBytesInner>
-        ensures { GivesOutcome (spec.bytes_of_options (L.pairs lender.now) (options self.now).source (options self.now).encoding (options self.now).errors) result };
+        ensures { GivesOutcome (spec.bytes_asked (L.pairs lender.now) (options self.now)) result };
 
     /// The bytes that the options ask for, for Python's `bytearray`, which takes the same arguments as
     /// `bytes`.
@@ -182,7 +182,7 @@ pub trait NewOptions {
     ///
     /// Example: of the source 3 alone it gives `b"\0\0\0"`.
     fn get_bytearray_inner<L: Lender>(&self, alloc: Global, lender: &L) -> Tried<PyBytesInner>
-        ensures { GivesOutcome (spec.bytes_of_options (L.pairs lender.now) (options self.now).source (options self.now).encoding (options self.now).errors) result };
+        ensures { GivesOutcome (spec.bytes_asked (L.pairs lender.now) (options self.now)) result };
 }
 
 impl NewOptions for ByteInnerNewOptions {

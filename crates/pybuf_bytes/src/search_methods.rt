@@ -1,6 +1,5 @@
 //! The searches, cuts and sums of strings of bytes.
-ghost use Rattle.std.specs.Prelude.{◌≡◌, ◌≤◌, ◌++◌, ℕ, List, Option, Some, length, IfOk, OnOk, OnErr};
-ghost use Rattle.std.specs.Borrow.{Bor};
+ghost use Rattle.std.specs.Prelude.{◌≡◌, ◌≤◌, ◌++◌, Option, Some, IfOk, OnOk, OnErr};
 ghost use Rattle.std.specs.Fn.{FnReturnsAtPair};
 ghost use Rattle.bstr.specs.Owned.{joined};
 ghost use Rattle.pybuf_value.specs.Halting.{refusal_of, GivesOutcome, GivesOutcomeAs, GivesOutcomeOfBytes};
@@ -123,8 +122,8 @@ impl PyBytesInner {
         find: F,
     ) -> Tried<Option<usize>>
         requires callable { F.IsAlwaysCallable find }
-        requires inside { (part : Bor (List ℕ)) (needle : Bor (List ℕ)) (place : ℕ) → F.post find part needle (Some place) → place ≤ length part.now }
-        ensures function { (search : List ℕ → List ℕ → Option ℕ) → IsSearch (F.post find) search → GivesOutcome (spec.find_of search options.sub options.start options.end self.now) result }
+        requires inside { spec.FindsInside (F.post find) }
+        ensures function { spec.FindsAsSearch (F.post find) options.sub options.start options.end self.now result }
         ensures call { IfOk result (λ outcome. spec.IsFound (FnReturnsAtPair F.Fn find) options.sub options.start options.end self.now outcome) }
     {
         find_between(alloc, self.as_bytes(), options, find)

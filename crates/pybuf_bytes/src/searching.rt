@@ -1,6 +1,5 @@
 //! Searches and cuts of bytes by arguments.
-ghost use Rattle.std.specs.Prelude.{◌≡◌, ◌≤◌, ℕ, List, Option, Some, IfOk, length};
-ghost use Rattle.std.specs.Borrow.{Bor};
+ghost use Rattle.std.specs.Prelude.{◌≡◌, ◌≤◌, Option, Some, IfOk};
 ghost use Rattle.std.specs.Fn.{FnReturnsAtPair};
 ghost use Rattle.pybuf_value.specs.Halting.{GivesOutcome, GivesOutcomeAs, GivesOutcomeOfBytes};
 ghost use Rattle.pybuf_search.specs.Ranges.{IsSearch};
@@ -64,8 +63,8 @@ pub fn find_between<F: Fn(&[u8], &[u8]) -> Option<usize>>(
     find: F,
 ) -> Tried<Option<usize>>
     requires callable { F.IsAlwaysCallable find }
-    requires inside { (part : Bor (List ℕ)) (needle : Bor (List ℕ)) (place : ℕ) → F.post find part needle (Some place) → place ≤ length part.now }
-    ensures function { (search : List ℕ → List ℕ → Option ℕ) → IsSearch (F.post find) search → GivesOutcome (spec.find_of search options.sub options.start options.end bytes.now) result }
+    requires inside { spec.FindsInside (F.post find) }
+    ensures function { spec.FindsAsSearch (F.post find) options.sub options.start options.end bytes.now result }
     ensures call { IfOk result (λ outcome. spec.IsFound (FnReturnsAtPair F.Fn find) options.sub options.start options.end bytes.now outcome) }
 {
     match options.get_value(alloc, bytes.len())? {

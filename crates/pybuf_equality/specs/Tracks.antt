@@ -37,6 +37,6 @@ same_pieces_by falls other_falls bytes track other other_track size count =
     all_below (same_piece bytes (place_of falls track.start track.step) other (place_of other_falls other_track.start other_track.step) size) count
 
 -- so many items along both tracks are the same numbers, of a sign and a size of its own on each side
-abbrev pub same_numbers : List ℕ → Track → Bool → ℕ → List ℕ → Track → Bool → ℕ → ℕ → Bool
-same_numbers bytes track signed size other other_track other_signed other_size count =
+abbrev pub all_equal : List ℕ → Track → Bool → ℕ → List ℕ → Track → Bool → ℕ → ℕ → Bool
+all_equal bytes track signed size other other_track other_signed other_size count =
     all_below (same_number bytes (place_of track.falls track.start track.step) signed size other (place_of other_track.falls other_track.start other_track.step) other_signed other_size) count

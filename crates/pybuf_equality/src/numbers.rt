@@ -3,7 +3,7 @@ ghost use Rattle.std.specs.Prelude.{◌≡◌, ◌+◌, ◌≤◌, length, take,
 ghost use Rattle.std.specs.Ordering.{int_eq};
 ghost use Rattle.pybuf_strided.specs.Apart.{AreInside};
 ghost use Rattle.pybuf_struct.specs.Digits.{is_width, number};
-ghost use Rattle.pybuf_equality.specs.Tracks.{same_numbers};
+ghost use Rattle.pybuf_equality.specs.Tracks.{all_equal};
 
 use crate::tracks::place_on;
 use crate::words::number;
@@ -42,7 +42,7 @@ fn equal_sized<const SIZE: usize, const OTHER_SIZE: usize>(
     requires other_width { IsTrue (is_width OTHER_SIZE) }
     requires inside { AreInside track.falls track.start track.step count SIZE (length bytes.now) }
     requires other_inside { AreInside other_track.falls other_track.start other_track.step count OTHER_SIZE (length other.now) }
-    ensures { result ≡ same_numbers bytes.now track signed SIZE other.now other_track other_signed OTHER_SIZE count }
+    ensures { result ≡ all_equal bytes.now track signed SIZE other.now other_track other_signed OTHER_SIZE count }
 {
     for k in 0..count {
         let at = place_on(track, k);
@@ -69,7 +69,7 @@ fn equal_beside<const SIZE: usize>(
     requires other_width { IsTrue (is_width other_size) }
     requires inside { AreInside track.falls track.start track.step count SIZE (length bytes.now) }
     requires other_inside { AreInside other_track.falls other_track.start other_track.step count other_size (length other.now) }
-    ensures { result ≡ same_numbers bytes.now track signed SIZE other.now other_track other_signed other_size count }
+    ensures { result ≡ all_equal bytes.now track signed SIZE other.now other_track other_signed other_size count }
 {
     match other_size {
         1 => equal_sized::<SIZE, 1>(
@@ -128,7 +128,7 @@ pub(crate) fn equal_numbers(
     requires other_width { IsTrue (is_width other_size) }
     requires inside { AreInside track.falls track.start track.step count size (length bytes.now) }
     requires other_inside { AreInside other_track.falls other_track.start other_track.step count other_size (length other.now) }
-    ensures { result ≡ same_numbers bytes.now track signed size other.now other_track other_signed other_size count }
+    ensures { result ≡ all_equal bytes.now track signed size other.now other_track other_signed other_size count }
 {
     match size {
         1 => equal_beside::<1>(

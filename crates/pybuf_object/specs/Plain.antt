@@ -5,6 +5,7 @@ use Rattle.std.specs.Global.{Vec}
 use Rattle.pybuf_value.specs.declared.faults.Fault.{Fault}
 use Rattle.pybuf_value.specs.declared.halt.Halt.{Halt}
 use Rattle.pybuf_value.specs.declared.halt.Halt.TheVariants as halt
+use Rattle.pybuf_value.specs.Halting.{Answered, Settled}
 use Rattle.pybuf_value.specs.Refusing.{◌>>=◌}
 use Rattle.pybuf_value.specs.Making.{slice_of}
 use Rattle.pybuf_index.specs.Parts.{saturated_parts_of, picks_of}
@@ -20,21 +21,15 @@ use Rattle.pybuf_state.specs.Resizing.{resizable}
 -- The answer is what a definition says, and the exporter is the one that it says. If the definition refuses,
 -- the answer is that refusal. If it doesn't, memory may still run out. In both cases the exporter is as before.
 abbrev pub Settles : {X : Type 0} → Result (Exporter × X) Fault → Exporter → Result X Halt → Exporter → Type 0
-Settles wanted old (Ok x) new = wanted ≡ Ok (new, x)
-Settles wanted old (Err (halt.Refused f)) new = (wanted ≡ Err f) × (new ≡ old)
-Settles wanted old (Err halt.NoMemory) new = IsOk wanted × (new ≡ old)
+Settles wanted old result new = Settled result (λ x. (new, x)) (new ≡ old) (IsOk wanted × (new ≡ old)) wanted
 
 -- the same for a call that takes no memory
 abbrev pub SettlesAtOnce : {X : Type 0} → Result (Exporter × X) Fault → Exporter → Result X Halt → Exporter → Type 0
-SettlesAtOnce wanted old (Ok x) new = wanted ≡ Ok (new, x)
-SettlesAtOnce wanted old (Err (halt.Refused f)) new = (wanted ≡ Err f) × (new ≡ old)
-SettlesAtOnce wanted old (Err halt.NoMemory) new = ⊥
+SettlesAtOnce wanted old result new = Settled result (λ x. (new, x)) (new ≡ old) ⊥ wanted
 
 -- The answer is these bytes, or the refusal, unless memory runs out.
 abbrev pub GivesBytes : Result (List ℕ) Fault → Result (Vec ℕ) Halt → Type 0
-GivesBytes wanted (Ok bytes) = wanted ≡ Ok bytes.items
-GivesBytes wanted (Err (halt.Refused f)) = wanted ≡ Err f
-GivesBytes wanted (Err halt.NoMemory) = Unit {0}
+GivesBytes wanted result = Answered result (λ bytes. bytes.items) wanted
 
 -- ---- calls that read
 

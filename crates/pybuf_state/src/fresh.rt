@@ -55,7 +55,7 @@ fn without_views(alloc: Global, kind: ExporterKind, content: ByteList) -> Parts
 fn vector_of_view(parts: &Parts, alloc: Global, view: usize, snap: Snap) -> Made<Parts>
     requires whole { IsWhole parts.now }
     requires copy { IsCopyOf (exporter_of parts.now) (subjects.View view) snap }
-    ensures value { IfOk result (λ made. exporter_of made ≡ made_of (is_readonly_subject (exporter_of parts.now) (subjects.View view)) snap) }
+    ensures value { MakesExporter (made_of (is_readonly_subject (exporter_of parts.now) (subjects.View view)) snap) result }
     ensures counted { IfOk result (λ made. made.exports ≡ exports_of (exporter_of made)) }
 {
     match parts.live_layout(view) {
