@@ -1,11 +1,12 @@
 -- The indices of slices of a single axis.
-use Rattle.std.proofs.Common.{◌≡◌, ℕ, zero, suc, ◌+◌, ◌-◌, ◌<◌, ◌≤◌, ℤ, pos, negsuc, Bool, true, false, List, [], ◌∷◌, length, refl, ap, ap₂, ◌∙◌, arith}
-use Rattle.std.specs.Prelude.{Some, None, nat_lt, slice_index, ◌+ℤ◌, if◌then◌else◌}
+use Rattle.std.proofs.Common.{◌≡◌, ℕ, zero, suc, ◌+◌, ◌-◌, ◌<◌, ◌≤◌, ℤ, pos, negsuc, List, [], ◌∷◌, length, refl, ap, ◌∙◌, arith}
+use Rattle.std.specs.Prelude.{None, slice_index, ◌+ℤ◌}
 use Rattle.std.specs.List.{range_with_len}
 use Rattle.std.specs.declared.ops.Range.{Range}
-use Rattle.std.proofs.lemmas.Int.{ints, clamps}
+use Rattle.std.proofs.lemmas.Int.{ints}
 use Rattle.std.proofs.lemmas.List.FromFn.{length-range_with_len, get_or-range_with_len}
-use Rattle.pybuf_index.specs.Picks.{start_of, stop_of, steps_to, picks}
+use Rattle.pybuf_index.specs.Facts.{steps_rise, picks_between}
+use Rattle.pybuf_index.specs.Picks.{steps_to, picks}
 use Rattle.pybuf_index.specs.Parts.{SliceParts, picks_of}
 use Rattle.example_picture.specs.Cuts.{all_of, backwards, between}
 
@@ -13,29 +14,6 @@ use Rattle.example_picture.specs.Cuts.{all_of, backwards, between}
 pub record IsAxis (entries : ℕ) (parts : SliceParts) (count : ℕ) (source : ℕ → ℕ) : Type 0 where
   pub many : length (picks_of entries parts) ≡ count
   pub at : (i : ℕ) → i < count → slice_index (picks_of entries parts) i ≡ source i
-
-steps_rise : (most s count : ℕ) → count ≤ most → steps_to most (pos s) (pos (s + count)) (pos 1) ≡ range_with_len s count
-steps_rise zero s zero within = refl
-steps_rise zero s (suc count) within = absurd (omega (arith, within))
-steps_rise (suc most) s zero within =
-    let done : nat_lt s (s + 0) ≡ false = grind arith in
-    ap (λ (more : Bool). if more then s ∷ steps_to most (pos s +ℤ pos 1) (pos (s + 0)) (pos 1) else []) done
-steps_rise (suc most) s (suc count) within =
-    let more : nat_lt s (s + suc count) ≡ true = grind arith in
-    let far : s + suc count ≡ s + 1 + count = omega arith in
-    ap (λ (b : Bool). if b then s ∷ steps_to most (pos s +ℤ pos 1) (pos (s + suc count)) (pos 1) else []) more
-    ∙ ap (λ (end : ℕ). s ∷ steps_to most (pos s +ℤ pos 1) (pos end) (pos 1)) far
-    ∙ ap (λ (rest : List ℕ). s ∷ rest) (steps_rise most (s + 1) count (omega (arith, within)))
-
-picks_between : (n start end : ℕ) → start ≤ end → end ≤ n → picks n (Some (pos start)) (Some (pos end)) (pos 1) ≡ range_with_len start (end - start)
-unfolding picks
-picks_between n start end order inside =
-    let first : start_of n (Some (pos start)) (pos 1) ≡ pos start = omega (arith, ints, clamps, order, inside) in
-    let last : stop_of n (Some (pos end)) (pos 1) ≡ pos end = omega (arith, ints, clamps, inside) in
-    let far : end ≡ start + (end - start) = omega (arith, order) in
-    ap₂ (λ (a b : ℤ). steps_to n a b (pos 1)) first last
-    ∙ ap (λ (k : ℕ). steps_to n (pos start) (pos k) (pos 1)) far
-    ∙ steps_rise n start (end - start) (omega (arith, order, inside))
 
 picks_all : (n : ℕ) → picks n None None (pos 1) ≡ range_with_len 0 n
 unfolding picks

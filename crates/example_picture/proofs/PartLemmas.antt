@@ -1,12 +1,13 @@
 -- The parts that selections and transpositions show.
-use Rattle.std.proofs.Common.{◌≡◌, ℕ, zero, suc, ◌+◌, ◌-◌, ◌*◌, ◌<◌, ◌≤◌, true, false, List, [], ◌∷◌, length, map, refl, ap, ap₂, sym, subst, ◌∙◌, arith, IsPermutation, mul_comm}
-use Rattle.std.specs.Prelude.{codes, slice_index, drop, Result, Ok, Err, IfOk}
+use Rattle.std.proofs.Common.{◌≡◌, ℕ, zero, suc, ◌+◌, ◌-◌, ◌*◌, ◌<◌, ◌≤◌, true, false, List, [], ◌∷◌, length, refl, ap, sym, subst, ◌∙◌, arith, IsPermutation, mul_comm}
+use Rattle.std.specs.Prelude.{codes, slice_index, drop}
 use Rattle.std.specs.List.{range_with_len}
 use Rattle.std.specs.declared.ops.Range.{Range}
 use Rattle.std.proofs.lemmas.Slice.Eq.{bytes_eq-Decides}
 use Rattle.std.proofs.lemmas.List.FromFn.{length-range_with_len, get_or-range_with_len, get_or-map-range_with_len}
 use Rattle.std.proofs.lemmas.Nat.{mul-add-lt}
 use Rattle.std.proofs.Math.Nat.{mul-pos}
+use Rattle.pybuf_desc.specs.Facts.{whole_starts}
 use Rattle.pybuf_index.specs.Parts.{SliceParts}
 use Rattle.pybuf_desc.specs.Layouts.{Layout, LiesInside, bytes_layout, product}
 use Rattle.pybuf_desc.specs.Contiguous.{starts_from, is_contiguous_layout}
@@ -44,10 +45,6 @@ listed a b c d e f p q s = ap (λ x. x ∷ b ∷ c ∷ []) p ∙ ap (λ x. d ∷
 
 pub slices_listed : (a b c d e f : SliceParts) → a ≡ d → b ≡ e → c ≡ f → (a ∷ b ∷ c ∷ []) ≡ (d ∷ e ∷ f ∷ [])
 slices_listed a b c d e f p q s = listed a b c d e f p q s
-
-pub on_ok : {X E : Type 0} (r : Result X E) (P Q : X → Type 0) → ((x : X) → P x → Q x) → IfOk r P → IfOk r Q
-on_ok (Ok x) P Q h p = h x p
-on_ok (Err e) P Q h p = tt
 
 -- ---- what a selection shows
 
@@ -163,14 +160,6 @@ turn_shows law view made frame is = record {
 }
 
 -- ---- all of a picture
-
-by_ones : (xs : List ℕ) → map (λ k. 0 + k * 1) xs ≡ xs
-by_ones [] = refl
-by_ones (x ∷ xs) = ap₂ (λ (y : ℕ) (ys : List ℕ). y ∷ ys) (let same : 0 + x * 1 ≡ x = omega arith in same) (by_ones xs)
-
-whole_starts : (n : ℕ) → range_with_len 0 n ≡ starts_from (range_with_len 0 n) 1 (length (range_with_len 0 n))
-whole_starts zero = refl
-whole_starts (suc n) = sym (ap (λ (m : ℕ). map (λ k. 0 + k * 1) (range_with_len 0 m)) (length-range_with_len 0 (suc n)) ∙ by_ones (range_with_len 0 (suc n)))
 
 pub contiguous_whole : (n : ℕ) (view : Layout) → view ≡ bytes_layout n false → is_contiguous_layout view ≡ true
 contiguous_whole n view is =

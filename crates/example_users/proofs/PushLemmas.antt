@@ -3,6 +3,7 @@ use Rattle.std.proofs.Common.{◌≡◌, ℕ, ◌+◌, ◌<◌, ◌/◌, ◌%◌
 use Rattle.std.specs.Prelude.{Result, Ok, Err, OnOk, OnErr}
 use Rattle.std.proofs.Common.{length-append}
 use Rattle.std.proofs.lemmas.Bool.Decides.{nat_tests}
+use Rattle.pybuf_state.specs.Facts.{none_live}
 use Rattle.pybuf_value.specs.declared.faults.Fault.{Fault}
 use Rattle.pybuf_value.specs.declared.faults.Fault.TheVariants as fault
 use Rattle.pybuf_value.specs.declared.halt.Halt.{Halt}
@@ -16,7 +17,6 @@ use Rattle.pybuf_object.specs.Plain.{Settles, extended_by, may_resize}
 use Rattle.example_users.specs.Numbers.{Numbers, numbers_of, numbers_in, IsLent, IsNumberArray}
 use Rattle.example_users.proofs.NumberLemmas.{numbers_of-low_high}
 use Rattle.example_users.proofs.OutLemmas.{lent_by, lent_none}
-use Rattle.example_users.proofs.WholeLemmas.{none_live}
 
 pub record Pushed (a : Numbers) (new : Exporter) (n : ℕ) (r : Result (Unit {0}) Halt) : Type 0 where
   pub ok : OnOk r (numbers_in new ≡ record a { numbers = a.numbers ++ n ∷ [] })

@@ -1,7 +1,6 @@
 -- Views that are out show all bytes, and a number is written through one of them.
-use Rattle.std.proofs.Common.{◌≡◌, ℕ, suc, zero, ◌+◌, ◌*◌, ◌<◌, ◌≤◌, ◌^◌, ◌/◌, ◌%◌, Bool, true, false, not, cond, List, [], ◌∷◌, ◌++◌, length, map, refl, ap, arith, sym, ◌∙◌, subst, set, Some, take, drop}
-use Rattle.std.specs.Prelude.{count_by, slice_get, slice_index, Result, Ok, Err, MatchResult, OnErr}
-use Rattle.std.proofs.lemmas.List.Sums.{sum_by-cons}
+use Rattle.std.proofs.Common.{◌≡◌, ℕ, suc, zero, ◌+◌, ◌*◌, ◌<◌, ◌≤◌, ◌^◌, ◌/◌, ◌%◌, Bool, true, false, not, List, [], ◌∷◌, ◌++◌, length, map, refl, ap, arith, sym, ◌∙◌, subst, set, Some, take, drop}
+use Rattle.std.specs.Prelude.{slice_get, slice_index, Result, Ok, Err, MatchResult, OnErr}
 use Rattle.std.proofs.lemmas.List.{length-map}
 use Rattle.std.specs.Result.{result_map_both}
 use Rattle.pybuf_value.specs.declared.faults.Fault.{Fault}
@@ -22,19 +21,6 @@ use Rattle.example_users.specs.Lines.{IsSpanned}
 use Rattle.example_users.specs.Numbers.{Numbers, numbers_in, IsOut, IsNumberArray}
 use Rattle.example_users.proofs.NumberLemmas.{put_sound, put_shown}
 use Rattle.example_users.proofs.SpanLemmas.{lent_content, lent_written}
-
-not_first : (b : Bool) (n : ℕ) → cond b 1 0 + n ≡ 0 → b ≡ true → ⊥
-not_first true n none is = omega arith
-not_first false n none is = cc
-
-rest_none : (b : Bool) (n : ℕ) → cond b 1 0 + n ≡ 0 → n ≡ 0
-rest_none b n none = omega arith
-
--- If no view is exported, none is live.
-pub none_live : (views : List View) (k : ℕ) → count_by is_exported views ≡ 0 → is_unreleased (slice_get views k) ≡ true → ⊥
-none_live [] k none live = cc
-none_live (v ∷ views) zero none live = not_first (is_exported v) (count_by is_exported views) (rw sum_by-cons at none) live
-none_live (v ∷ views) (suc k) none live = none_live views k (rest_none (is_exported v) _ (rw sum_by-cons at none)) live
 
 -- A view that is live is out.
 shown_live : (views : List View) (k : ℕ) → is_unreleased (slice_get views k) ≡ true → slice_get (map is_exported views) k ≡ Some true

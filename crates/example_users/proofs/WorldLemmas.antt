@@ -2,6 +2,7 @@
 use Rattle.std.proofs.Common.{◌≡◌, ℕ, suc, ◌<◌, List, [], ◌∷◌, ◌++◌, length, take, refl, ap, sym, subst, ◌∙◌, slice_get}
 use Rattle.std.specs.Prelude.{Result, Ok, Err, IfOk, OnErr}
 use Rattle.std.proofs.Math.Seq.{take-length}
+use Rattle.pybuf_world.specs.Facts.{after_both}
 use Rattle.pybuf_command.specs.declared.worlds.Command.{Command}
 use Rattle.pybuf_value.specs.declared.faults.Fault.{Fault}
 use Rattle.pybuf_command.specs.declared.worlds.Reply.{Reply}
@@ -10,10 +11,6 @@ use Rattle.pybuf_world.specs.World.{World, empty_world, wstep, world_after_all, 
 use Rattle.pybuf_world.specs.Sound.{IsSoundWorld, StaysSound}
 use Rattle.pybuf_world.specs.Laws.{HandlesStay, RefusalsChangeNothing, RunsStaySound}
 use Rattle.example_users.specs.Program.{IsMade}
-
-after_both : (w : World) (first then : List Command) → world_after_all w (first ++ then) ≡ world_after_all (world_after_all w first) then
-after_both w [] then = refl
-after_both w (c ∷ first) then = after_both (wstep w c).0 first then
 
 -- There is a reply for each command.
 pub length-replies_of : (w : World) (commands : List Command) → length (replies_of w commands) ≡ length commands

@@ -1,6 +1,5 @@
 -- The part that was given last.
 use Rattle.std.proofs.Common.{◌≡◌, ℕ, List, [], ◌∷◌, ◌++◌, length, get_or, length-append, refl, ap, sym, subst, ◌∙◌, arith}
-use Rattle.std.specs.Prelude.{Result, Ok, Err, IfOk}
 use Rattle.example_picture.specs.Parts.{Part}
 use Rattle.example_picture.specs.Pictures.{Picture, part_at, IsGiven}
 use Rattle.golden_picture.specs.Sizes.{HasSize}
@@ -20,7 +19,3 @@ sized old new part k rows columns channels is tall wide deep =
       deep = ap (λ (p : Part). p.channels) at ∙ deep;
     } in
     subst (λ (p : Picture). HasSize p k rows columns channels) (sym is.after) (subst (λ (n : ℕ). HasSize more n rows columns channels) (sym is.number) one)
-
-pub on_ok : {X E : Type 0} (r : Result X E) (P Q : X → Type 0) → ((x : X) → P x → Q x) → IfOk r P → IfOk r Q
-on_ok (Ok x) P Q h p = h x p
-on_ok (Err e) P Q h p = tt

@@ -1,17 +1,15 @@
 -- A slice of a slice of a view shows what the second picks among the picks of the first.
-use Rattle.std.proofs.Common.{◌≡◌, ◌≢◌, ℕ, zero, suc, ◌<◌, true, false, List, [], ◌∷◌, ◌++◌, length, refl, sym, ◌∙◌, ap, subst, arith, ℤ, pos, negsuc}
-use Rattle.std.specs.Prelude.{Option, Some, None, Result, Ok, Err, IfOk, slice_get}
+use Rattle.std.proofs.Common.{◌≡◌, ℕ, zero, suc, ◌<◌, false, List, [], ◌∷◌, ◌++◌, length, refl, sym, ◌∙◌, ap, arith}
+use Rattle.std.specs.Prelude.{Option, Some, None, Result, Ok, Err, slice_get}
 use Rattle.std.specs.List.{All, cons_option}
 use Rattle.std.specs.Option.{ok_or, option_and_then}
-use Rattle.std.proofs.lemmas.Int.{ints}
 use Rattle.std.proofs.lemmas.Option.{slice_get-get_or}
+use Rattle.pybuf_index.specs.Facts.{slice_parts_move}
 use Rattle.pybuf_value.specs.declared.faults.Fault.{Fault}
 use Rattle.pybuf_value.specs.declared.faults.Fault.TheVariants as fault
-use Rattle.pybuf_value.specs.declared.values.Scalar.{Scalar}
-use Rattle.pybuf_value.specs.declared.values.Scalar.TheVariants as scalar
 use Rattle.pybuf_value.specs.declared.values.PySlice.{PySlice}
 use Rattle.pybuf_value.specs.Refusing.{◌>>=◌, unless}
-use Rattle.pybuf_index.specs.Parts.{SliceParts, nonzero, step_in, part_in, nearest_word, clamped_parts, saturated_parts_of, picks_of}
+use Rattle.pybuf_index.specs.Parts.{SliceParts, saturated_parts_of, picks_of}
 use Rattle.pybuf_index.specs.Laws.{EachSlice, PicksAre}
 use Rattle.pybuf_slice.specs.Reads.{elements_at}
 use Rattle.pybuf_array.specs.Array.{Array, ArrayView, live_view, with_view, view_sliced}
@@ -57,41 +55,6 @@ chosen_twice xs ps (q ∷ qs) below =
     ap (λ (o : Option ℕ). cons_option o (elements_at (elements_at xs ps) qs)) (element_there xs ps q below)
     ∙ (ap (cons_option (option_and_then (slice_get xs) (slice_get ps q))) (chosen_twice xs ps qs below)
     ∙ one_more xs (slice_get ps q) (elements_at ps qs))
-
--- ---- the step of a slice isn't 0
-
-still_nonzero : (n : ℤ) → n ≢ pos 0 → nearest_word n ≢ pos 0
-still_nonzero (pos zero) moves = λ e. moves refl
-still_nonzero (pos (suc n)) moves = λ e. omega (arith, ints, e)
-still_nonzero (negsuc n) moves = λ e. omega (arith, ints, e)
-
-nonzero_moves : (n : ℤ) → IfOk (nonzero n) (λ step. step ≢ pos 0)
-nonzero_moves (pos zero) = tt
-nonzero_moves (pos (suc n)) = λ e. omega (arith, ints, e)
-nonzero_moves (negsuc n) = λ e. omega (arith, ints, e)
-
-step_moves : (s : Scalar) → IfOk (step_in s) (λ step. step ≢ pos 0)
-step_moves scalar.None = λ e. omega (arith, ints, e)
-step_moves (scalar.Bool true) = λ e. omega (arith, ints, e)
-step_moves (scalar.Bool false) = tt
-step_moves (scalar.Int n) = nonzero_moves n
-step_moves (scalar.Text t) = tt
-step_moves (scalar.Bytes b) = tt
-step_moves scalar.Ellipsis = tt
-step_moves (scalar.Handle h) = tt
-
-chain_moves : (step : Result ℤ Fault) (start stop : Result (Option ℤ) Fault) → IfOk step (λ s. s ≢ pos 0) →
-    IfOk (step >>= (λ s. start >>= (λ a. stop >>= (λ o. Ok (record { start = a; stop = o; step = s })))) >>= (λ parts. Ok (clamped_parts parts)))
-    (λ parts. parts.step ≢ pos 0)
-chain_moves (Err f) start stop moves = tt
-chain_moves (Ok s) (Err f) stop moves = tt
-chain_moves (Ok s) (Ok a) (Err f) moves = tt
-chain_moves (Ok s) (Ok a) (Ok o) moves = still_nonzero s moves
-
-parts_move : (s : PySlice) (parts : SliceParts) → saturated_parts_of s ≡ Ok parts → parts.step ≢ pos 0
-parts_move s parts is =
-    subst (λ (r : Result SliceParts Fault). IfOk r (λ p. p.step ≢ pos 0)) is
-    (chain_moves (step_in s.step) (part_in s.start) (part_in s.stop) (step_moves s.step))
 
 -- ---- slices of views
 
@@ -148,7 +111,7 @@ slices_of_slices picks_are a b c v k m n s t live once twice =
     ap (λ (x : Array). live_view x m) first.after ∙ (ap (live_view (with_view a chosen)) first.number ∙ last_live a chosen) in
     let second = sliced b c made m n t next twice in
     let below : All (λ i. i < length v.indices) (picks_of (length v.indices) first.parts) =
-    (picks_are (length v.indices) first.parts.start first.parts.stop first.parts.step (parts_move s first.parts first.is)).inside in
+    (picks_are (length v.indices) first.parts.start first.parts.stop first.parts.step (slice_parts_move s first.parts first.is)).inside in
     let long : length chosen ≡ length (picks_of (length v.indices) first.parts) = as_many v.indices (picks_of (length v.indices) first.parts) below in
     let shown : elements_at chosen (picks_of (length chosen) second.parts) ≡ elements_at v.indices (picks_of_picks (length v.indices) first.parts second.parts) =
     ap (λ (l : ℕ). elements_at chosen (picks_of l second.parts)) long

@@ -1,5 +1,5 @@
 -- The parts of an array after its bytes or its views changed.
-use Rattle.std.proofs.Common.{◌≡◌, ℕ, zero, suc, ◌+◌, ◌≤◌, Bool, true, false, not, cond, List, [], ◌∷◌, ◌++◌, length, refl, sym, ap, subst, ◌∙◌, arith, ℤ, slice_get, map, take, drop, ◌/◌, ◌%◌}
+use Rattle.std.proofs.Common.{◌≡◌, ℕ, ◌+◌, ◌≤◌, Bool, true, false, not, cond, List, [], ◌∷◌, ◌++◌, length, refl, sym, ap, subst, ◌∙◌, arith, ℤ, take, drop, ◌/◌, ◌%◌}
 use Rattle.std.specs.Prelude.{Result, Ok, Err, OnOk, OnErr, count_by, nat_lt, ◌==◌}
 use Rattle.std.proofs.lemmas.Bool.{ltb-false}
 use Rattle.std.proofs.lemmas.List.Sums.{sum_by-cons}
@@ -8,13 +8,15 @@ use Rattle.pybuf_value.specs.declared.faults.Fault.TheVariants as fault
 use Rattle.pybuf_value.specs.Refusing.{unless}
 use Rattle.pybuf_command.specs.declared.kinds.ExporterKind.TheVariants as kinds
 use Rattle.pybuf_state.specs.Exporter.{Exporter, View, exports_of, is_exported, new_exporter}
-use Rattle.pybuf_state.specs.Live.{is_unreleased}
 use Rattle.pybuf_numbers.specs.declared.codes.ArrayCode.{ArrayCode}
 use Rattle.pybuf_numbers.specs.declared.codes.ArrayCode.TheVariants as code
 use Rattle.pybuf_numbers.specs.declared.runs.IndexRun.{IndexRun}
 use Rattle.std.specs.Simd.{first_chunks}
 use Rattle.std.proofs.Math.Nat.{div-le_self}
 use Rattle.std.proofs.Math.Seq.{take-append_seam}
+use Rattle.pybuf_lemmas.proofs.Lists.{length_of_chunks}
+use Rattle.pybuf_state.specs.Facts.{none_live}
+use Rattle.pybuf_numbers.specs.Facts.{no_array_items_whole, numbers_of_none, length_mapped, length_of_numbers}
 use Rattle.pybuf_exporter.specs.Lending.{overwritten_exporter}
 use Rattle.pybuf_numbers.specs.Codes.{size_of}
 use Rattle.pybuf_numbers.specs.Numbers.{numbers_of, number_in, count_in, is_whole}
@@ -32,66 +34,21 @@ exports_by (r ∷ runs) (v ∷ views) same =
     ∙ (ap (λ n. cond (not v.released) 1 0 + n) (exports_by runs views (omega arith))
     ∙ sym (sum_by-cons (λ (w : View). cond (is_exported w) 1 0) v views))
 
-none_live : (views : List View) (k : ℕ) → count_by is_exported views ≡ 0 → is_unreleased (slice_get views k) ≡ true → ⊥
-none_live [] k none live = cc
-none_live (v ∷ views) zero none live =
-    let sum : count_by is_exported (v ∷ views) ≡ cond (not v.released) 1 0 + count_by is_exported views = sum_by-cons (λ (w : View). cond (is_exported w) 1 0) v views in
-    omega (arith, sum, ap {B = ℕ} (λ b. cond b 1 0) live)
-none_live (v ∷ views) (suc k) none live =
-    let sum : count_by is_exported (v ∷ views) ≡ cond (not v.released) 1 0 + count_by is_exported views = sum_by-cons (λ (w : View). cond (is_exported w) 1 0) v views in
-    none_live views k (omega (arith, sum)) live
-
 unless_free : (b : Bool) (f : Fault) → unless b f ≡ Ok true → b ≡ false
 unless_free true f is = absurd cc
 unless_free false f is = refl
 
 -- ---- an array without numbers
 
-pub none_whole : (c : ArrayCode) → is_whole c [] ≡ true
-none_whole code.SByte = refl
-none_whole code.UByte = refl
-none_whole code.Short = refl
-none_whole code.UShort = refl
-none_whole code.Int = refl
-none_whole code.UInt = refl
-none_whole code.Long = refl
-none_whole code.ULong = refl
-none_whole code.LongLong = refl
-none_whole code.ULongLong = refl
-
-none_numbers : (c : ArrayCode) → numbers_of c [] ≡ []
-none_numbers code.SByte = refl
-none_numbers code.UByte = refl
-none_numbers code.Short = refl
-none_numbers code.UShort = refl
-none_numbers code.Int = refl
-none_numbers code.UInt = refl
-none_numbers code.Long = refl
-none_numbers code.ULong = refl
-none_numbers code.LongLong = refl
-none_numbers code.ULongLong = refl
-
 pub new_shown : (c : ArrayCode) → array_of c (new_exporter kinds.ByteArray []) [] ≡ spec.new_array c
-new_shown c = ap (λ (ns : List ℤ). record { code = c; numbers = ns; views = [] }) (none_numbers c)
+new_shown c = ap (λ (ns : List ℤ). record { code = c; numbers = ns; views = [] }) (numbers_of_none c)
 
 pub new_sound : (c : ArrayCode) → IsSoundArray c (new_exporter kinds.ByteArray []) []
-new_sound c = record { kind = refl; whole = none_whole c; count = refl; inside = λ k r there live. absurd cc }
-
--- There are at most as many numbers as bytes.
-length_mapped : (f : List ℕ → ℤ) (ps : List (List ℕ)) → length (map f ps) ≡ length ps
-length_mapped f [] = refl
-length_mapped f (p ∷ ps) = ap suc (length_mapped f ps)
-
-length_pieces : (s k : ℕ) (xs : List ℕ) → length (first_chunks s k xs) ≡ k
-length_pieces s zero xs = refl
-length_pieces s (suc k) xs = ap suc (length_pieces s k (drop s xs))
-
-pub count_is : (c : ArrayCode) (bytes : List ℕ) → length (numbers_of c bytes) ≡ length bytes / size_of c
-count_is c bytes = length_mapped (number_in c) (first_chunks (size_of c) (count_in c bytes) bytes) ∙ length_pieces (size_of c) (count_in c bytes) bytes
+new_sound c = record { kind = refl; whole = no_array_items_whole c; count = refl; inside = λ k r there live. absurd cc }
 
 pub few_numbers : (c : ArrayCode) (bytes : List ℕ) → length (numbers_of c bytes) ≤ length bytes
 few_numbers c bytes =
-    omega (arith, length_mapped (number_in c) (first_chunks (size_of c) (count_in c bytes) bytes), length_pieces (size_of c) (count_in c bytes) bytes, div-le_self (length bytes) (size_of c))
+    omega (arith, length_mapped (number_in c) (first_chunks (size_of c) (count_in c bytes) bytes), length_of_chunks (size_of c) (count_in c bytes) bytes, div-le_self (length bytes) (size_of c))
 
 -- ---- an array that got other numbers
 
@@ -127,5 +84,5 @@ module _ (c : ArrayCode) (e : Exporter) (runs : List IndexRun) (a : Array) (soun
       let whole : (overwritten_exporter e new).bytes ≡ new = ap (λ m. take m (new ++ drop (length new) e.bytes)) (sym long) ∙ take-append_seam new (drop (length new) e.bytes) in
       let same : length (overwritten_exporter e new).bytes ≡ length e.bytes = ap (λ xs. length xs) whole ∙ long in
       sound_written (overwritten_exporter e new).bytes
-      (count_is c (overwritten_exporter e new).bytes ∙ ap (λ n. n / size_of c) same ∙ sym (count_is c e.bytes))
+      (length_of_numbers c (overwritten_exporter e new).bytes ∙ ap (λ n. n / size_of c) same ∙ sym (length_of_numbers c e.bytes))
       (ap (λ n. n % size_of c == 0) same ∙ sound.whole)

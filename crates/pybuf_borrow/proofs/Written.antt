@@ -1,11 +1,15 @@
 -- Bytes that are written where the items of a view lie one after the other.
-use Rattle.std.proofs.Common.{◌≡◌, ℕ, zero, suc, ◌+◌, ◌-◌, ◌*◌, ◌%◌, ◌<◌, ◌≤◌, List, [], ◌∷◌, ◌++◌, length, take, drop, Bool, true, false, not, true≢false, refl, ap, sym, subst, ◌∙◌, arith}
-use Rattle.std.specs.Prelude.{slice_index, slice_get, All, Option, Some, None, Ok, ◌&&◌}
+use Rattle.std.proofs.Common.{◌≡◌, ℕ, zero, suc, ◌+◌, ◌-◌, ◌*◌, ◌%◌, ◌<◌, ◌≤◌, List, [], ◌∷◌, ◌++◌, length, take, drop, true, not, true≢false, refl, ap, sym, subst, ◌∙◌, arith}
+use Rattle.std.specs.Prelude.{slice_index, slice_get, All}
 use Rattle.std.proofs.Math.Seq.{drop-append_seam, drop-nil}
 use Rattle.std.proofs.lemmas.List.Elements.{All-head}
 use Rattle.std.proofs.Math.Nat.{mod_self, div_self, mul_comm}
 use Rattle.std.proofs.lemmas.List.{append-nil}
 use Rattle.std.proofs.lemmas.Grind.{common_steps}
+use Rattle.pybuf_lemmas.proofs.Lists.{empty_if_no_length}
+use Rattle.pybuf_lemmas.proofs.Booleans.{first_of_both, second_of_both}
+use Rattle.pybuf_desc.specs.Facts.{layout_passes as lives}
+use Rattle.pybuf_state.specs.Facts.{live_of}
 use Rattle.pybuf_desc.specs.Layouts.{Layout, LiesInside}
 use Rattle.pybuf_desc.specs.Contiguous.{starts_from, is_contiguous_layout}
 use Rattle.pybuf_desc.specs.Items.{bytes_of_items, content_of_layout}
@@ -13,11 +17,8 @@ use Rattle.pybuf_desc.specs.Casts.{cast_count}
 use Rattle.pybuf_desc.specs.Laws.{CastsShareTheirBytes}
 use Rattle.pybuf_memoryview.specs.Laws.{ContentsAreWhole}
 use Rattle.pybuf_command.specs.declared.kinds.Subject.TheVariants as subject
-use Rattle.pybuf_state.specs.Exporter.{Exporter, View}
-use Rattle.pybuf_state.specs.Live.{is_unreleased, is_live, layout_in, layout_of, is_writable_run}
-use Rattle.pybuf_value.specs.declared.faults.Fault.TheVariants as fault
-use Rattle.pybuf_value.specs.Refusing.{◌>>=◌, unless}
-use Rattle.std.specs.Option.{ok_or}
+use Rattle.pybuf_state.specs.Exporter.{Exporter}
+use Rattle.pybuf_state.specs.Live.{is_live, layout_of, is_writable_run}
 use Rattle.pybuf_state.specs.Laws.{LiveLayoutsAreSound}
 use Rattle.pybuf_borrow.specs.Laws.{ChangesTheLentBytesAlone, BorrowsChangeTheLentBytesAlone}
 
@@ -66,10 +67,6 @@ whole_item bytes view n count [] same some one = absurd (omega (arith, some))
 whole_item bytes view n count (first ∷ starts) same some one =
     rw same (rw one (let zeroth : first + 0 * n ≡ first = omega arith in rw zeroth (append-nil (take n (drop first bytes)))))
 
-nothing : (xs : List ℕ) → length xs ≡ 0 → xs ≡ []
-nothing [] none = refl
-nothing (x ∷ xs) none = absurd (omega (arith, none))
-
 some_start : (starts : List ℕ) (size m : ℕ) → suc m ≡ length starts * size → 0 < length starts
 some_start [] size m is = absurd (omega (arith, is))
 some_start (start ∷ starts) size m is = omega arith
@@ -77,7 +74,7 @@ some_start (start ∷ starts) size m is = omega arith
 by_size : CastsShareTheirBytes → ContentsAreWhole → (bytes : List ℕ) (view : Layout) (n : ℕ) → n ≡ length view.starts * view.itemsize → is_contiguous_layout view ≡ true → LiesInside (length bytes) view
     → content_of_layout bytes view ≡ take n (drop (slice_index view.starts 0) bytes)
 by_size casts whole bytes view zero is contiguous inside =
-    nothing (content_of_layout bytes view) (whole bytes view inside ∙ mul_comm view.itemsize (length view.starts) ∙ sym is)
+    empty_if_no_length (content_of_layout bytes view) (whole bytes view inside ∙ mul_comm view.itemsize (length view.starts) ∙ sym is)
 by_size casts whole bytes view (suc m) is contiguous inside =
     let some : 0 < suc m = omega arith in
     let even : length view.starts * view.itemsize % suc m ≡ 0 = rw (← is) (mod_self (suc m)) in
@@ -126,22 +123,6 @@ over_all old new long = grind (arith, common_steps, long)
 past_all : (old new : List ℕ) → length new ≡ length old → drop (0 + length new) new ≡ drop (0 + length new) old
 past_all old new long = grind (arith, common_steps, long)
 
-first_of : (a b : Bool) → (a && b) ≡ true → a ≡ true
-first_of true b both = refl
-first_of false b both = absurd (true≢false (sym both))
-
-second_of : (a b : Bool) → (a && b) ≡ true → b ≡ true
-second_of true b both = both
-second_of false b both = absurd (true≢false (sym both))
-
-lives : (b : Bool) (l : Layout) → not b ≡ true → (unless b fault.Value >>= λ u. Ok l) ≡ Ok l
-lives true l live = absurd (true≢false (sym live))
-lives false l live = refl
-
-live_in : (o : Option View) → is_unreleased o ≡ true → (ok_or o fault.UnknownName >>= λ v. unless v.released fault.Value >>= λ u. Ok v.layout) ≡ Ok (layout_in o)
-live_in None live = absurd (true≢false (sym live))
-live_in (Some v) live = lives v.released v.layout live
-
 pub written : CastsShareTheirBytes → ContentsAreWhole → LiveLayoutsAreSound → BorrowsChangeTheLentBytesAlone
 written casts whole lives e subject.Own bytes sound can long = record {
   read_back = over_all e.bytes bytes long;
@@ -150,8 +131,8 @@ written casts whole lives e subject.Own bytes sound can long = record {
   count = ap length (over_all e.bytes bytes long) ∙ long;
 }
 written casts whole lives e (subject.View k) bytes sound can long =
-    let live : is_live e k ≡ true = first_of (is_live e k) (is_writable_run (layout_of e k)) can in
-    let run : is_writable_run (layout_of e k) ≡ true = second_of (is_live e k) (is_writable_run (layout_of e k)) can in
-    let contiguous : is_contiguous_layout (layout_of e k) ≡ true = first_of (is_contiguous_layout (layout_of e k)) (not (layout_of e k).readonly) run in
-    written_run casts whole e k bytes contiguous (lives e k (layout_of e k) sound (live_in (slice_get e.views k) live)).inside long
+    let live : is_live e k ≡ true = first_of_both (is_live e k) (is_writable_run (layout_of e k)) can in
+    let run : is_writable_run (layout_of e k) ≡ true = second_of_both (is_live e k) (is_writable_run (layout_of e k)) can in
+    let contiguous : is_contiguous_layout (layout_of e k) ≡ true = first_of_both (is_contiguous_layout (layout_of e k)) (not (layout_of e k).readonly) run in
+    written_run casts whole e k bytes contiguous (lives e k (layout_of e k) sound (live_of (slice_get e.views k) live)).inside long
 written casts whole lives e (subject.Iter k) bytes sound can long = absurd (true≢false (sym can))

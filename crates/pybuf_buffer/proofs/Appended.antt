@@ -3,9 +3,11 @@ use Rattle.std.proofs.Common.{◌≡◌, ℕ, zero, suc, ◌+◌, ◌*◌, ◌<�
 use Rattle.std.specs.Prelude.{All, pos, true}
 use Rattle.std.specs.declared.ops.Range.{Range}
 use Rattle.std.specs.List.{flat_map}
-use Rattle.std.proofs.lemmas.Grind.{common_steps, flat_map-append}
-use Rattle.std.proofs.lemmas.List.{length-append, length-take-le, length-drop, get_or_append_left, get_or-append-add}
-use Rattle.std.proofs.lemmas.List.FromFn.{length-map-range_with_len, get_or-map-range_with_len}
+use Rattle.std.proofs.lemmas.Grind.{flat_map-append}
+use Rattle.std.proofs.lemmas.List.{length-append, get_or_append_left, get_or-append-add}
+use Rattle.std.proofs.lemmas.List.FromFn.{get_or-map-range_with_len}
+use Rattle.pybuf_lemmas.proofs.Lists.{length_of_piece}
+use Rattle.pybuf_desc.specs.Facts.{length-line}
 use Rattle.pybuf_strided.specs.Apart.{place_of, AreInside, pieces_at}
 use Rattle.pybuf_desc.specs.declared.line.SegmentLine.{SegmentLine}
 use Rattle.pybuf_desc.specs.SegmentLines.{ranges_of_line, range_on, IsLine}
@@ -60,18 +62,10 @@ appended bytes old new total first ranges others same grown so_far =
 
 -- ---- a line
 
-pub length-line : (line : SegmentLine) → length (ranges_of_line line) ≡ line.count
-length-line line = length-map-range_with_len (range_on line.track.falls line.track.start line.track.step line.size) 0 line.count
-
 pub steps_more : (line : SegmentLine) (ranges others : List (Range ℕ)) (old new total : ℕ) → ranges ≡ ranges_of_line line ++ others → new ≡ old + line.count → old + length ranges ≡ total → new + length others ≡ total
 steps_more line ranges others old new total same grown so_far =
     let long : length ranges ≡ line.count + length others = ap length same ∙ length-append (ranges_of_line line) others ∙ ap (λ (n : ℕ). n + length others) (length-line line) in
     omega (arith, grown, so_far, long)
-
-pub fewer_ranges : (line : SegmentLine) (ranges others : List (Range ℕ)) → ranges ≡ ranges_of_line line ++ others → IsLine line → length others < length ranges
-fewer_ranges line ranges others same is =
-    let long : length ranges ≡ line.count + length others = ap length same ∙ length-append (ranges_of_line line) others ∙ ap (λ (n : ℕ). n + length others) (length-line line) in
-    omega (arith, long, is.some)
 
 no_range : Range ℕ
 no_range = record { start = 0; end = 0 }
@@ -88,19 +82,13 @@ items_inside line room is all =
           );
     }
 
-piece_long : (source : List ℕ) (start size : ℕ) → (0 < size → start + size ≤ length source) → length (take size (drop start source)) ≡ size
-piece_long source start zero fits = grind (arith, common_steps)
-piece_long source start (suc size) fits =
-    let room : start + suc size ≤ length source = fits (let some : 0 < suc size = omega arith in some) in
-    length-take-le (suc size) (drop start source) (let enough : suc size ≤ length (drop start source) = omega (arith, room, length-drop start source) in enough)
-
 length-pieces : (source : List ℕ) (from : ℕ → ℕ) (size n : ℕ) → (0 < size → (k : ℕ) → k < n → from k + size ≤ length source) → length (pieces_at source from size n) ≡ size * n
 length-pieces source from size zero all = let none : 0 ≡ size * 0 = grind arith in none
 length-pieces source from size (suc n) all =
     let whole : size * n + size ≡ size * suc n = grind arith in
     length-append (pieces_at source from size n) (take size (drop (from n) source))
     ∙ ap₂ (λ (x y : ℕ). x + y) (length-pieces source from size n (λ some k less. all some k (let more : k < suc n = omega (arith, less) in more)))
-    (piece_long source (from n) size (λ some. all some n (let last : n < suc n = omega arith in last))) ∙ whole
+    (length_of_piece source (from n) size (λ some. all some n (let last : n < suc n = omega arith in last))) ∙ whole
 
 -- There are as many bytes as the items of the line have.
 pub line_long : LinesHaveTheirPieces → (line : SegmentLine) (bytes : List ℕ) → AreInside line.track.falls line.track.start line.track.step line.count line.size (length bytes)

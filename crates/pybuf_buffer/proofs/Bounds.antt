@@ -1,7 +1,8 @@
 -- How many ranges there are at most.
-use Rattle.std.proofs.Common.{◌≡◌, ℕ, zero, suc, ◌-◌, ◌*◌, ◌<◌, ◌≤◌, ℤ, pos, true, List, [], ◌∷◌, length, take, drop, le_refl, mul-le-mul_left, mul-pos, zero-mul, pos_of_ne-zero, refl, ap, sym, ◌∙◌, subst, arith}
+use Rattle.std.proofs.Common.{◌≡◌, ℕ, zero, suc, ◌-◌, ◌*◌, ◌<◌, ◌≤◌, ℤ, pos, true, List, [], ◌∷◌, length, take, drop, le_refl, mul-le-mul_left, mul-pos, refl, ap, sym, ◌∙◌, subst, arith}
 use Rattle.std.specs.Prelude.{slice_get, ◌==◌, if◌then◌else◌}
 use Rattle.std.proofs.lemmas.Bool.Decides.{Decides-int_eq}
+use Rattle.pybuf_lemmas.proofs.Numbers.{first_factor_positive, second_factor_positive}
 use Rattle.pybuf_desc.specs.Layouts.{Layout, product}
 use Rattle.pybuf_desc.specs.Strides.{AreRowMajor}
 use Rattle.pybuf_desc.specs.Tails.{tail_of_layout}
@@ -21,23 +22,16 @@ at_some (suc n) m h = grind arith
 
 -- ---- products of the first entries
 
-left_factor : (a b : ℕ) → 0 < a * b → 0 < a
-left_factor a b some = pos_of_ne-zero (λ (e : a ≡ 0). let none : a * b ≡ 0 = ap (λ (n : ℕ). n * b) e ∙ zero-mul b in omega (arith, some, none))
-
-right_factor : (a b : ℕ) → 0 < a * b → 0 < b
-right_factor a zero some = absurd (omega (arith, some))
-right_factor a (suc b) some = omega arith
-
 some_first : (k : ℕ) (xs : List ℕ) → 0 < product xs → 0 < product (take k xs)
 some_first zero xs some = omega arith
 some_first (suc k) [] some = some
-some_first (suc k) (x ∷ xs) some = mul-pos (left_factor x (product xs) some) (some_first k xs (right_factor x (product xs) some))
+some_first (suc k) (x ∷ xs) some = mul-pos (first_factor_positive x (product xs) some) (some_first k xs (second_factor_positive x (product xs) some))
 
 fewer_first : (j k : ℕ) (xs : List ℕ) → j ≤ k → 0 < product xs → product (take j xs) ≤ product (take k xs)
 fewer_first zero k xs few some = some_first k xs some
 fewer_first (suc j) zero xs few some = absurd (omega (arith, few))
 fewer_first (suc j) (suc k) [] few some = le_refl 1
-fewer_first (suc j) (suc k) (x ∷ xs) few some = mul-le-mul_left x (fewer_first j k xs (omega (arith, few)) (right_factor x (product xs) some))
+fewer_first (suc j) (suc k) (x ∷ xs) few some = mul-le-mul_left x (fewer_first j k xs (omega (arith, few)) (second_factor_positive x (product xs) some))
 
 all_first : (xs : List ℕ) → take (length xs) xs ≡ xs
 all_first [] = refl

@@ -1,10 +1,8 @@
 -- The ranges of the joined walk over the items of a view: how many there are, and where they lie.
-use Rattle.std.proofs.Common.{◌≡◌, ℕ, zero, suc, ◌+◌, ◌*◌, ◌-◌, ◌<◌, ◌≤◌, ℤ, pos, Bool, true, false, List, [], ◌∷◌, length, map, take, drop, ap, ap₂, sym, ◌∙◌, refl, true≢false, arith}
-use Rattle.std.specs.Prelude.{All, slice_index_or, ◌==◌, ◌+ℤ◌, ◌*ℤ◌, if◌then◌else◌}
-use Rattle.std.specs.List.{flat_map, range_with_len}
+use Rattle.std.proofs.Common.{◌≡◌, ℕ, zero, suc, ◌*◌, ◌-◌, ◌<◌, ℤ, pos, Bool, true, false, List, [], ◌∷◌, length, map, take, drop, ap, ap₂, sym, ◌∙◌, refl, arith}
+use Rattle.std.specs.Prelude.{All, slice_index_or, ◌==◌, if◌then◌else◌}
 use Rattle.std.specs.declared.ops.Range.{Range}
-use Rattle.std.proofs.lemmas.List.{take-map, length-map, length-append}
-use Rattle.std.proofs.lemmas.List.FromFn.{length-range_with_len}
+use Rattle.std.proofs.lemmas.List.{take-map, length-map}
 use Rattle.std.proofs.lemmas.List.Elements.{All-map, All-nil}
 use Rattle.pybuf_desc.specs.Layouts.{Layout, product}
 use Rattle.pybuf_desc.specs.Descriptor.{Descriptor, shape_of, strides_of}
@@ -13,22 +11,12 @@ use Rattle.pybuf_desc.specs.Valid.{IsPlaced}
 use Rattle.pybuf_desc.specs.Tails.{tail_of, tail_of_strides}
 use Rattle.pybuf_desc.specs.Segments.{range_at, ranges_of, joined_count, joined_dims, outer_dims}
 use Rattle.std.proofs.Math.Nat.{mul-pos}
+use Rattle.pybuf_lemmas.proofs.Numbers.{second_factor_positive, positive_if_nonzero}
+use Rattle.pybuf_desc.specs.Facts.{length-places}
 use Rattle.pybuf_buffer.specs.Laws.{RangesAreCounted}
 use Rattle.pybuf_buffer.specs.Appending.{range_count}
 
 -- ---- how many
-
-each_long : (f : ℕ → List ℤ) (n : ℕ) (xs : List ℕ) → ((i : ℕ) → length (f i) ≡ n) → length (flat_map f xs) ≡ length xs * n
-each_long f n [] same = let none : 0 * n ≡ 0 = grind arith in sym none
-each_long f n (x ∷ xs) same =
-    let more : n + length xs * n ≡ suc (length xs) * n = grind arith in
-    length-append (f x) (flat_map f xs) ∙ ap₂ (λ (a b : ℕ). a + b) (same x) (each_long f n xs same) ∙ more
-
-length-places : (dims : List (ℕ × ℤ × ℤ)) (start : ℤ) → length (places dims start) ≡ product (shape_of dims)
-length-places [] start = refl
-length-places (dim ∷ dims) start =
-    each_long (λ index. places dims (start +ℤ pos index *ℤ dim.1)) (product (shape_of dims)) (range_with_len 0 dim.0) (λ i. length-places dims (start +ℤ pos i *ℤ dim.1))
-    ∙ ap (λ (n : ℕ). n * product (shape_of dims)) (length-range_with_len 0 dim.0)
 
 outer_is : (dims : List (ℕ × ℤ × ℤ)) (joined : ℕ) → product (shape_of (outer_dims joined dims)) ≡ product (take (length (shape_of dims) - joined) (shape_of dims))
 outer_is dims joined =
@@ -51,35 +39,15 @@ ranges_are_counted d start layout placed stands =
     ∙ ap (λ (shape : List ℕ). if product shape == 0 then 0 else product (take (length shape - tail_of_strides d.itemsize shape (strides_of d.dims)) shape)) stands.shape
     ∙ ap₂ (λ (size : ℕ) (strides : List ℤ). if product layout.shape == 0 then 0 else product (take (length layout.shape - tail_of_strides size layout.shape strides) layout.shape)) stands.itemsize stands.strides
 
--- ---- where
-
-at_in_order : (size : ℕ) (p : ℤ) → (range_at size p).start ≤ (range_at size p).end
-at_in_order size p = omega arith
-
-if_in_order : (empty : Bool) (size : ℕ) (ps : List ℤ) → All (λ (range : Range ℕ). range.start ≤ range.end) (if empty then [] else map (range_at size) ps)
-if_in_order true size ps = All-nil (λ (range : Range ℕ). range.start ≤ range.end)
-if_in_order false size ps = All-map (λ (range : Range ℕ). range.start ≤ range.end) (range_at size) ps (λ k d below. at_in_order size (slice_index_or ps k d))
-
-pub ranges_in_order : (d : Descriptor) (start : ℤ) (joined : ℕ) → All (λ (range : Range ℕ). range.start ≤ range.end) (ranges_of d start joined)
-ranges_in_order d start joined = if_in_order (product (shape_of d.dims) == 0) (product (shape_of (joined_dims joined d.dims)) * d.itemsize) (places (outer_dims joined d.dims) start)
-
 -- ---- that none is empty
-
-factor : (a b : ℕ) → 0 < a * b → 0 < b
-factor a zero some = absurd (omega (arith, some))
-factor a (suc b) some = omega arith
 
 some_rest : (n : ℕ) (dims : List (ℕ × ℤ × ℤ)) → 0 < product (shape_of dims) → 0 < product (shape_of (drop n dims))
 some_rest zero dims some = some
 some_rest (suc n) [] some = some
-some_rest (suc n) (dim ∷ dims) some = some_rest n dims (factor dim.0 (product (shape_of dims)) some)
+some_rest (suc n) (dim ∷ dims) some = some_rest n dims (second_factor_positive dim.0 (product (shape_of dims)) some)
 
 at_nonempty : (size : ℕ) (p : ℤ) → 0 < size → (range_at size p).start < (range_at size p).end
 at_nonempty size p some = omega (arith, some)
-
-not_empty : (count : ℕ) → (count == 0) ≡ false → 0 < count
-not_empty zero is = absurd (true≢false is)
-not_empty (suc count) is = omega arith
 
 if_nonempty : (empty : Bool) (size : ℕ) (ps : List ℤ) → (empty ≡ false → 0 < size) → All (λ (range : Range ℕ). range.start < range.end) (if empty then [] else map (range_at size) ps)
 if_nonempty true size ps some = All-nil (λ (range : Range ℕ). range.start < range.end)
@@ -89,7 +57,7 @@ if_nonempty false size ps some =
 ranges_nonempty : (d : Descriptor) (start : ℤ) (joined : ℕ) → 0 < d.itemsize → All (λ (range : Range ℕ). range.start < range.end) (ranges_of d start joined)
 ranges_nonempty d start joined sized =
     if_nonempty (product (shape_of d.dims) == 0) (product (shape_of (joined_dims joined d.dims)) * d.itemsize) (places (outer_dims joined d.dims) start)
-    (λ is. mul-pos (some_rest (length d.dims - joined) d.dims (not_empty (product (shape_of d.dims)) is)) sized)
+    (λ is. mul-pos (some_rest (length d.dims - joined) d.dims (positive_if_nonzero (product (shape_of d.dims)) is)) sized)
 
 -- ---- both together
 

@@ -1,12 +1,15 @@
 -- Runs of bytes that close up, and what is left without the bytes at the indices between the runs.
-use Rattle.std.proofs.Common.{◌≡◌, ◌≢◌, ℕ, zero, suc, ◌+◌, ◌-◌, ◌*◌, ◌/◌, ◌%◌, ◌<◌, ◌≤◌, true, false, List, [], ◌∷◌, ◌++◌, length, refl, ap, ap₂, sym, ◌∙◌, arith, inl, inr, ℤ, pos, take, drop, get_or, append-nil, append_assoc, length-drop, take-append-drop}
-use Rattle.std.specs.Prelude.{Bool, reverse, if◌then◌else◌, ◌==◌, nat_abs}
+use Rattle.std.proofs.Common.{◌≡◌, ◌≢◌, ℕ, zero, suc, ◌+◌, ◌-◌, ◌*◌, ◌/◌, ◌%◌, ◌<◌, ◌≤◌, true, false, List, [], ◌∷◌, ◌++◌, length, refl, ap, ap₂, sym, ◌∙◌, arith, inl, inr, ℤ, pos, take, drop, get_or, append-nil, append_assoc, take-append-drop}
+use Rattle.std.specs.Prelude.{Bool, reverse, if◌then◌else◌, nat_abs}
 use Rattle.std.proofs.Math.Nat.{zero-mul, mul-le-mul_right}
 use Rattle.std.proofs.Math.Seq.{drop-append-add, drop-cons}
 use Rattle.std.proofs.lemmas.Bool.{cases_lt}
-use Rattle.std.proofs.lemmas.Bool.Decides.{nat_tests}
 use Rattle.std.proofs.lemmas.Nat.{div-add-mod'}
-use Rattle.std.proofs.lemmas.List.{length-append, length-take-le, length-reverse, take_at, drop-drop, reverse-append}
+use Rattle.std.proofs.lemmas.List.{length-append, length-take-le, take_at, drop-drop}
+use Rattle.pybuf_lemmas.proofs.Lists.{length_of_part}
+use Rattle.pybuf_strided.specs.Facts.{piece_after}
+use Rattle.pybuf_slice.specs.Facts.{has_head, has_other, has_reverse}
+use Rattle.pybuf_index.specs.Facts.{run_length, how_many_none, how_many_some}
 use Rattle.pybuf_strided.specs.Apart.{with_piece, pieces_at}
 use Rattle.pybuf_index.specs.Picks.{is_negative}
 use Rattle.pybuf_index.specs.Runs.{rising, run_of, run_low, how_many, picks_in_span}
@@ -36,15 +39,11 @@ run_down low size k =
     let sum : k * suc size ≡ k * size + k = grind arith in
     omega (arith, sum)
 
-piece_long : (bytes : List ℕ) (there size : ℕ) → there + size ≤ length bytes → length (take size (drop there bytes)) ≡ size
-piece_long bytes there size inside =
-    length-take-le size (drop there bytes) (omega (arith, inside, length-drop there bytes))
-
 length-pieces : (bytes : List ℕ) (from : ℕ → ℕ) (size n : ℕ) → ((k : ℕ) → k < n → from k + size ≤ length bytes) → length (pieces_at bytes from size n) ≡ n * size
 length-pieces bytes from size zero all = sym (zero-mul size)
 length-pieces bytes from size (suc n) all =
     let before = length-pieces bytes from size n (λ k less. all k (omega (arith, less))) in
-    let last = piece_long bytes (from n) size (all n (omega arith)) in
+    let last = length_of_part bytes (from n) size (all n (omega arith)) in
     let whole : suc n * size ≡ n * size + size = grind arith in
     length-append (pieces_at bytes from size n) (take size (drop (from n) bytes)) ∙ ap₂ (λ (x y : ℕ). x + y) before last ∙ sym whole
 
@@ -69,10 +68,6 @@ beyond before bytes a e long further =
     let here : a + n ≡ e = omega (arith, further) in
     ap (λ (k : ℕ). drop k (before ++ drop a bytes)) (sym there) ∙ drop-append-add before (drop a bytes) n ∙ drop-drop n a bytes ∙ ap (λ (k : ℕ). drop k bytes) here
 
-piece_after : (before item bytes : List ℕ) (a : ℕ) → length before ≡ a → with_piece (before ++ drop a bytes) a item ≡ (before ++ item) ++ drop (a + length item) bytes
-piece_after before item bytes a long =
-    ap₂ (λ (xs ys : List ℕ). xs ++ item ++ ys) (take_at before (drop a bytes) a long) (beyond before bytes a (a + length item) long (omega arith))
-
 -- ---- the loops
 
 -- One more run moves.
@@ -90,7 +85,7 @@ next_closed bytes now more low size k n to from inside less to_is from_is so_far
     let item : List ℕ = take size (drop p bytes) in
     let same : take size (drop from now) ≡ item =
     ap₂ (λ (q : ℕ) (xs : List ℕ). take size (drop q xs)) from_is split ∙ ap (take size) (beyond before bytes a p long down) in
-    let sum : a + length item ≡ low + suc k * size = ap (λ (m : ℕ). a + m) (piece_long bytes p size (omega (arith, fits))) ∙ (let whole : low + k * size + size ≡ low + suc k * size = grind arith in whole) in
+    let sum : a + length item ≡ low + suc k * size = ap (λ (m : ℕ). a + m) (length_of_part bytes p size (omega (arith, fits))) ∙ (let whole : low + k * size + size ≡ low + suc k * size = grind arith in whole) in
     step
     ∙ ap (with_piece now to) same
     ∙ ap₂ (λ (xs : List ℕ) (q : ℕ). with_piece xs q item) split to_is
@@ -114,39 +109,11 @@ empty_closed bytes low size n none =
 
 -- ---- index lists
 
-has_head : (i : ℕ) (r : List ℕ) (q : ℕ) → i ≡ q → has (i ∷ r) q ≡ true
-has_head i r q e = grind (arith, nat_tests)
-
-has_other : (i : ℕ) (r : List ℕ) (q : ℕ) → i ≢ q → has (i ∷ r) q ≡ has r q
-has_other i r q e = grind (arith, nat_tests)
-
 has_low : (n low stride q : ℕ) → q < low → has (rising low stride n) q ≡ false
 has_low zero low stride q under = refl
 has_low (suc n) low stride q under =
     let other : low ≢ q = omega arith in
     has_other low (rising (low + stride) stride n) q other ∙ has_low n (low + stride) stride q (omega arith)
-
-either_way : (a b c : Bool) → (if a then true else (if b then true else c)) ≡ (if (if a then true else b) then true else c)
-either_way true b c = refl
-either_way false b c = refl
-
-has_append : (xs ys : List ℕ) (q : ℕ) → has (xs ++ ys) q ≡ (if has xs q then true else has ys q)
-has_append [] ys q = refl
-has_append (x ∷ xs) ys q = rw (has_append xs ys q) (either_way (x == q) (has xs q) (has ys q))
-
-other_way : (a b : Bool) → (if a then true else (if b then true else false)) ≡ (if b then true else a)
-other_way true true = refl
-other_way true false = refl
-other_way false true = refl
-other_way false false = refl
-
-has_reverse : (xs : List ℕ) (q : ℕ) → has (reverse xs) q ≡ has xs q
-has_reverse [] q = refl
-has_reverse (x ∷ xs) q =
-    ap (λ (us : List ℕ). has us q) (reverse-append (x ∷ []) xs)
-    ∙ has_append (reverse xs) (x ∷ []) q
-    ∙ ap (λ b. if b then true else has (x ∷ []) q) (has_reverse xs q)
-    ∙ other_way (has xs q) (x == q)
 
 -- ---- what is left without the indices of a list
 
@@ -228,7 +195,7 @@ off_rest bytes low size (suc n) inside =
     let there : suc low + size ≡ p = omega arith in
     let split : drop (suc low) bytes ≡ run ++ drop p bytes =
     sym (take-append-drop size (drop (suc low) bytes)) ∙ ap (λ (xs : List ℕ). run ++ xs) (drop-drop size (suc low) bytes ∙ ap (λ (k : ℕ). drop k bytes) there) in
-    let long : suc low + length run ≡ p = ap (λ (k : ℕ). suc low + k) (piece_long bytes (suc low) size (omega (arith, further))) ∙ there in
+    let long : suc low + length run ≡ p = ap (λ (k : ℕ). suc low + k) (length_of_part bytes (suc low) size (omega (arith, further))) ∙ there in
     ap (λ (xs : List ℕ). off_from (suc low) xs rest) split
     ∙ off_before run (drop p bytes) (suc low) p (suc size) (suc n) long
     ∙ ap (λ (xs : List ℕ). run ++ xs) (off_first bytes p (suc size) n (omega (arith, further)) ∙ off_rest bytes p size n further)
@@ -277,27 +244,13 @@ off_falls : (bytes : List ℕ) (falls : Bool) (low stride n : ℕ) → elements_
 off_falls bytes false low stride n = refl
 off_falls bytes true low stride n = off_same bytes 0 (reverse (rising low stride n)) (rising low stride n) (λ q over. has_reverse (rising low stride n) q)
 
-length-rising : (n low stride : ℕ) → length (rising low stride n) ≡ n
-length-rising zero low stride = refl
-length-rising (suc n) low stride = ap suc (length-rising n (low + stride) stride)
-
-length-run : (falls : Bool) (low stride n : ℕ) → length (run_of falls low stride n) ≡ n
-length-run false low stride n = length-rising n low stride
-length-run true low stride n = length-reverse (rising low stride n) ∙ length-rising n low stride
-
 -- There are as many indices as this.
 count_is : (spans : EachSpan SpanPicksAre) (low high : ℕ) (step : ℤ) (count : ℕ) → step ≢ pos 0 → count ≡ length (picks_in_span low high step) → count ≡ how_many low high (nat_abs step)
 count_is spans low high step count moves same_count =
     let many : ℕ = how_many low high (nat_abs step) in
     same_count
     ∙ ap length (spans low high step moves).run
-    ∙ length-run (is_negative step) (run_low (is_negative step) low high (nat_abs step) many) (nat_abs step) many
-
-how_many_none : (low high stride : ℕ) → high ≤ low → how_many low high stride ≡ 0
-how_many_none low high stride h = grind (arith, nat_tests)
-
-how_many_some : (low high stride : ℕ) → low < high → how_many low high stride ≡ (high - low - 1) / stride + 1
-how_many_some low high stride h = grind (arith, nat_tests)
+    ∙ run_length (is_negative step) (run_low (is_negative step) low high (nat_abs step) many) (nat_abs step) many
 
 -- The last of them is still below the end.
 last_below : (low high stride k : ℕ) → suc k ≡ how_many low high stride → low + k * stride < high

@@ -1,14 +1,14 @@
 -- Bytes that are set at the indices of a slice, by a loop over the places of the slice's run.
-use Rattle.std.proofs.Common.{◌≡◌, ◌≢◌, ℕ, zero, suc, ◌+◌, ◌-◌, ◌*◌, ◌<◌, ◌≤◌, Bool, true, false, true≢false, List, [], ◌∷◌, ◌++◌, length, take, drop, reverse, get_or, refl, ap, ap₂, sym, ◌∙◌, subst, arith, inl, inr, ℤ, pos, negsuc, nat_abs, w64, to_z, of_z, take_all, take-suc, mul-le-mul_right, length-append, length-take, length-set}
+use Rattle.std.proofs.Common.{◌≡◌, ◌≢◌, ℕ, zero, suc, ◌+◌, ◌-◌, ◌*◌, ◌<◌, ◌≤◌, Bool, true, false, true≢false, List, [], ◌∷◌, ◌++◌, length, take, drop, reverse, get_or, refl, ap, ap₂, sym, ◌∙◌, subst, arith, inl, inr, ℤ, pos, nat_abs, w64, to_z, of_z, take_all, take-suc, mul-le-mul_right, length-append, length-take, length-set}
 use Rattle.std.specs.Prelude.{All, slice_set, int_lt, if◌then◌else◌}
 use Rattle.std.proofs.Math.Nat.{suc-mul}
 use Rattle.std.proofs.Math.Seq.{get_or-append_seam}
 use Rattle.std.proofs.lemmas.Bool.{cases_lt}
-use Rattle.std.proofs.lemmas.Bool.Decides.{nat_tests}
 use Rattle.std.proofs.lemmas.Grind.{common_steps}
 use Rattle.std.proofs.lemmas.Int.{to_z-of_z}
-use Rattle.std.proofs.lemmas.List.{reverse-append, length-reverse, get_or_append_left}
+use Rattle.std.proofs.lemmas.List.{reverse-append, get_or_append_left}
 use Rattle.std.proofs.lemmas.List.Elements.{All-head}
+use Rattle.pybuf_index.specs.Facts.{rising_push, greatest_first, run_length, negative_is}
 use Rattle.pybuf_strided.specs.Apart.{place_of, AreInside, with_piece, moved_at}
 use Rattle.pybuf_index.specs.Picks.{is_negative}
 use Rattle.pybuf_index.specs.Parts.{SliceParts, IsSaturated, picks_of}
@@ -82,13 +82,6 @@ moved_are_set bytes source to (suc n) many inside =
 
 -- ---- runs are places
 
-rising_push : (n low s : ℕ) → rising low s (suc n) ≡ rising low s n ++ (low + n * s) ∷ []
-rising_push zero low s = grind arith
-rising_push (suc n) low s =
-    let same : low + s + n * s ≡ low + suc n * s = grind (arith, suc-mul n s) in
-    ap (λ (rest : List ℕ). low ∷ rest) (rising_push n (low + s) s)
-    ∙ ap (λ x. low ∷ (rising (low + s) s n ++ x ∷ [])) same
-
 rising_are : (n low s : ℕ) → rising low s n ≡ places (place_of false low s) n
 rising_are zero low s = refl
 rising_are (suc n) low s = rising_push n low s ∙ ap (λ (xs : List ℕ). xs ++ (low + n * s) ∷ []) (rising_are n low s)
@@ -101,17 +94,6 @@ falling_are (suc n) low s top is =
     let rest : top + s ≡ low + s + n * s = omega (arith, is, more) in
     reverse-append (low ∷ []) (rising (low + s) s n)
     ∙ ap₂ (λ (xs : List ℕ) (i : ℕ). xs ++ i ∷ []) (falling_are n (low + s) s top rest) last
-
-greatest_first : (n low s : ℕ) → reverse (rising low s (suc n)) ≡ (low + n * s) ∷ reverse (rising low s n)
-greatest_first n low s = ap reverse (rising_push n low s) ∙ reverse-append (rising low s n) ((low + n * s) ∷ [])
-
-length_rising : (n low s : ℕ) → length (rising low s n) ≡ n
-length_rising zero low s = refl
-length_rising (suc n) low s = ap suc (length_rising n (low + s) s)
-
-length_run : (falls : Bool) (low s n : ℕ) → length (run_of falls low s n) ≡ n
-length_run false low s n = length_rising n low s
-length_run true low s n = length-reverse (rising low s n) ∙ length_rising n low s
 
 -- ---- the indices of a span are places in it
 
@@ -167,12 +149,8 @@ span_is_walk spans low high step n moves many =
     let falls : Bool = is_negative step in
     let s : ℕ = nat_abs step in
     let m : ℕ = how_many low high s in
-    let count : m ≡ n = sym (many ∙ ap length span.run ∙ length_run falls (run_low falls low high s m) s m) in
+    let count : m ≡ n = sym (many ∙ ap length span.run ∙ run_length falls (run_low falls low high s m) s m) in
     run_is_walk falls low high s n (picks_in_span low high step) (span.run ∙ ap (λ (k : ℕ). run_of falls (run_low falls low high s k) s k) count) span.within
-
-negative_is : (z : ℤ) → int_lt z (pos 0) ≡ is_negative z
-negative_is (pos n) = grind (arith, nat_tests)
-negative_is (negsuc n) = refl
 
 -- the same walk, by the start, the stride and the direction that are given
 same_walk : (high : ℕ) (f falls : Bool) (first start s stride n : ℕ) (indices : List ℕ) → falls ≡ f → start ≡ first → stride ≡ s → IsWalk high f first s n indices

@@ -1,18 +1,15 @@
 -- Each reply of a run is one line.
-use Rattle.std.proofs.Common.{◌≡◌, Bool, true, false, [], ◌∷◌, ◌==◌, not, refl}
+use Rattle.std.proofs.Common.{[], ◌∷◌, ◌==◌}
 use Rattle.std.specs.List.{list_any}
+use Rattle.pybuf_lemmas.proofs.Booleans.{false_if_not_true}
 use Rattle.pybuf_command.specs.declared.worlds.Command.{Command}
 use Rattle.pybuf_world.specs.World.{World, wstep}
 use Rattle.pybuf_world.specs.Laws.{WorldShownTextsAreOneLine}
 use Rattle.pybuf_line.specs.Laws.{ShowsOneLine, NamesStaySingle}
 use Rattle.pybuf_cli.specs.Laws.{RunsStaySingle}
 
-not_broken : (broken : Bool) → not broken ≡ true → broken ≡ false
-not_broken false h = refl
-not_broken true h = cc
-
 shows_line : WorldShownTextsAreOneLine → (w : World) (c : Command) → ShowsOneLine (wstep w c).1
-shows_line shown w c text is = not_broken (list_any (λ b. b == 10) text) (shown w c text is)
+shows_line shown w c text is = false_if_not_true (list_any (λ b. b == 10) text) (shown w c text is)
 
 pub runs_single : WorldShownTextsAreOneLine → NamesStaySingle → RunsStaySingle
 runs_single shown replies name single w [] = tt

@@ -1,12 +1,12 @@
 -- Scripts, line by line: each line is one line, and spells the command of the script.
 use Rattle.std.proofs.Common.{◌≡◌, ◌==◌, ◌||◌, ℕ, zero, suc, ◌+◌, ◌*◌, ◌/◌, ◌%◌, ◌^◌, ◌<◌, ◌≤◌, Bool, true, false, cond, List, [], ◌∷◌, ◌++◌, refl, sym, ◌∙◌, ap, arith, codes}
 use Rattle.std.specs.Prelude.{Some, None, Ok, decimal}
-use Rattle.std.specs.List.{flat_map, range_with_len, list_any, onto_first}
+use Rattle.std.specs.List.{flat_map, range_with_len, list_any}
 use Rattle.std.proofs.lemmas.List.{append_assoc}
 use Rattle.std.proofs.lemmas.Fmt.{decimal_digit}
 use Rattle.hex.specs.Hex.{encode_lower, encode_with}
-use Rattle.std.proofs.lemmas.List.Splits.{slice_split-cons_yes, slice_split-cons_no}
 use Rattle.std.proofs.lemmas.List.Folds.{list_any-append}
+use Rattle.pybuf_line.specs.Facts.{line_cut, without_last}
 use Rattle.pybuf_value.specs.Spelling.{handle_text}
 use Rattle.pybuf_command.specs.declared.commands.Verb.TheVariants as verb
 use Rattle.pybuf_command.specs.declared.worlds.Command.{Command}
@@ -20,19 +20,6 @@ use Rattle.pybuf_line.specs.Laws.{ended_line, IsOneLine, RepliesAreSingle, Comma
 use Rattle.pybuf_make.specs.Script.{new_bytearray, of_first, append, pop_first, turned_round, viewed_by, round, script}
 use Rattle.pybuf_cli.specs.Scripts.{viewed_lines, round_lines, script_lines}
 use Rattle.pybuf_cli.specs.Laws.{ScriptsAreSpelled}
-
--- ---- texts of lines
-
-or_false : (a b : Bool) → (a || b) ≡ false → (a ≡ false) × (b ≡ false)
-or_false true b h = absurd (cc)
-or_false false b h = (refl, h)
-
--- A line and its line feed stand at the front of a text.
-line_cut : (line rest : List ℕ) → IsOneLine line → parts_at 10 (line ++ 10 ∷ rest) ≡ line ∷ parts_at 10 rest
-line_cut [] rest single = slice_split-cons_yes (λ b. b == 10) 10 rest refl
-line_cut (b ∷ line) rest single =
-    let both = or_false (b == 10) (list_any (λ x. x == 10) line) single in
-    slice_split-cons_no (λ x. x == 10) b (line ++ 10 ∷ rest) both.0 ∙ ap (onto_first b) (line_cut line rest both.1)
 
 -- ---- lines and their commands
 
@@ -55,11 +42,6 @@ parts_of_lines (line ∷ ls) (c ∷ cs) spelled =
     ∙ (line_cut line (flat_map ended_line ls) spelled.0 ∙ ap (λ rest. line ∷ rest) (parts_of_lines ls cs spelled.2))
 parts_of_lines [] (c ∷ cs) spelled = absurd spelled
 parts_of_lines (line ∷ ls) [] spelled = absurd spelled
-
-without_last : (ls : List (List ℕ)) → without_empty_last (ls ++ [] ∷ []) ≡ ls
-without_last [] = refl
-without_last (line ∷ []) = refl
-without_last (line ∷ next ∷ ls) = ap (λ rest. line ∷ rest) (without_last (next ∷ ls))
 
 commands_of_lines : (n : ℕ) (ls : List (List ℕ)) (cs : List Command) → Spell ls cs → commands_from handle_in n ls ≡ Ok cs
 commands_of_lines n [] [] spelled = refl

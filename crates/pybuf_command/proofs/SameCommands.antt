@@ -1,11 +1,12 @@
 -- Two commands are equal by Rust's `==` exactly if they are the same.
-use Rattle.std.proofs.Common.{◌≡◌, ℕ, Bool, true, false, ◌&&◌, List, Option, Some, None, refl, ap, ◌∙◌, subst}
+use Rattle.std.proofs.Common.{◌≡◌, ℕ, Bool, true, List, Option, Some, None, refl, ap, ◌∙◌, subst}
 use Rattle.std.specs.Bool.{Decides}
 use Rattle.std.specs.Option.{option_eq}
 use Rattle.std.specs.Cmp.Lexicographic.{pointwise}
 use Rattle.std.proofs.lemmas.Bool.{false≢true}
 use Rattle.std.proofs.lemmas.Bool.Decides.{Decides-eqb}
 use Rattle.std.proofs.lemmas.Slice.Eq.{slice_eq-Decides}
+use Rattle.pybuf_lemmas.proofs.Booleans.{both_of, both_hold, decided_alike, both_decided}
 use Rattle.pybuf_value.specs.declared.values.CompareOp.{CompareOp}
 use Rattle.pybuf_value.specs.declared.values.CompareOp.TheVariants as op
 use Rattle.pybuf_value.specs.declared.values.Value.{Value}
@@ -34,21 +35,6 @@ use Rattle.pybuf_command.specs.contracts.commands.PropertyNamePartialEq.TheImpl 
 use Rattle.pybuf_command.specs.contracts.commands.VerbPartialEq.TheImpl as verb_eq
 use Rattle.pybuf_command.specs.Loans.{equal_pairs}
 use Rattle.pybuf_command.specs.Laws.{EqualCommandsAreTheSame}
-
-both_parts : (a b : Bool) → a && b ≡ true → (a ≡ true) × (b ≡ true)
-both_parts true true h = (refl, refl)
-both_parts true false h = absurd (false≢true h)
-both_parts false b h = absurd (false≢true h)
-
-both_true : (a b : Bool) → a ≡ true → b ≡ true → a && b ≡ true
-both_true true b p q = q
-both_true false b p q = p
-
-moved : {b : Bool} {P Q : Type 0} → (P → Q) → (Q → P) → Decides b P → Decides b Q
-moved f g d = (λ h. f (d.0 h), λ q. d.1 (g q))
-
-and_decided : {P Q : Type 0} (a b : Bool) → Decides a P → Decides b Q → Decides (a && b) (P × Q)
-and_decided a b d e = (λ h. (d.0 (both_parts a b h).0, e.0 (both_parts a b h).1), λ p. both_true a b (d.1 p.0) (e.1 p.1))
 
 -- ---- names
 
@@ -235,8 +221,8 @@ by_call : (x y : MethodCall) → (x.name ≡ y.name) × (x.args ≡ y.args) → 
 by_call x y p = ap (λ a. call_with a x.args) p.0 ∙ ap (call_with y.name) p.1
 
 calls_same : ValuesSame → (x y : MethodCall) → Decides (call_eq.eq-value.it x y) (x ≡ y)
-calls_same e x y = moved (by_call x y) (λ p. (ap (λ c. c.name) p, ap (λ c. c.args) p))
-    (and_decided _ _ (names_same x.name y.name) (lists_same e x.args y.args))
+calls_same e x y = decided_alike (by_call x y) (λ p. (ap (λ c. c.name) p, ap (λ c. c.args) p))
+    (both_decided _ _ (names_same x.name y.name) (lists_same e x.args y.args))
 
 abbrev options_with : Option Value → Option Value → Option Value → ByteInnerNewOptions
 options_with source encoding errors = record { source = source; encoding = encoding; errors = errors }
@@ -247,18 +233,18 @@ by_options x y p =
     ∙ ap (options_with y.source y.encoding) p.1.1
 
 options_same : ValuesSame → (x y : ByteInnerNewOptions) → Decides (options_eq.eq-value.it x y) (x ≡ y)
-options_same e x y = moved (by_options x y) (λ p. (ap (λ c. c.source) p, (ap (λ c. c.encoding) p, ap (λ c. c.errors) p)))
-    (and_decided _ _ (maybes_same e x.source y.source) (and_decided _ _ (maybes_same e x.encoding y.encoding) (maybes_same e x.errors y.errors)))
+options_same e x y = decided_alike (by_options x y) (λ p. (ap (λ c. c.source) p, (ap (λ c. c.encoding) p, ap (λ c. c.errors) p)))
+    (both_decided _ _ (maybes_same e x.source y.source) (both_decided _ _ (maybes_same e x.encoding y.encoding) (maybes_same e x.errors y.errors)))
 
 -- ---- what a command asks
 
 verb_itself : ValuesSame → (x : Verb) → verb_eq.eq-value.it x x ≡ true
 verb_itself e verb.View = refl
-verb_itself e (verb.Range a b) = both_true _ _ ((e a a).1 refl) ((e b b).1 refl)
+verb_itself e (verb.Range a b) = both_hold _ _ ((e a a).1 refl) ((e b b).1 refl)
 verb_itself e (verb.Get a) = (e a a).1 refl
-verb_itself e (verb.Set a b) = both_true _ _ ((e a a).1 refl) ((e b b).1 refl)
-verb_itself e (verb.Cast a b) = both_true _ _ ((e a a).1 refl) ((maybes_same e b b).1 refl)
-verb_itself e (verb.CastF a b) = both_true _ _ ((e a a).1 refl) ((e b b).1 refl)
+verb_itself e (verb.Set a b) = both_hold _ _ ((e a a).1 refl) ((e b b).1 refl)
+verb_itself e (verb.Cast a b) = both_hold _ _ ((e a a).1 refl) ((maybes_same e b b).1 refl)
+verb_itself e (verb.CastF a b) = both_hold _ _ ((e a a).1 refl) ((e b b).1 refl)
 verb_itself e (verb.ToBytes a) = (maybes_same e a a).1 refl
 verb_itself e verb.Release = refl
 verb_itself e verb.Enter = refl
@@ -271,7 +257,7 @@ verb_itself e verb.ToReadonly = refl
 verb_itself e (verb.Del a) = (e a a).1 refl
 verb_itself e (verb.Append a) = (e a a).1 refl
 verb_itself e (verb.Extend a) = (e a a).1 refl
-verb_itself e (verb.Insert a b) = both_true _ _ ((e a a).1 refl) ((e b b).1 refl)
+verb_itself e (verb.Insert a b) = both_hold _ _ ((e a a).1 refl) ((e b b).1 refl)
 verb_itself e (verb.Pop a) = (maybes_same e a a).1 refl
 verb_itself e (verb.Remove a) = (e a a).1 refl
 verb_itself e verb.Clear = refl
@@ -281,7 +267,7 @@ verb_itself e (verb.IMul a) = (e a a).1 refl
 verb_itself e (verb.Init a) = (options_same e a a).1 refl
 verb_itself e verb.Take = refl
 verb_itself e verb.Copy = refl
-verb_itself e (verb.Compare a b) = both_true _ _ ((ops_same a a).1 refl) ((e b b).1 refl)
+verb_itself e (verb.Compare a b) = both_hold _ _ ((ops_same a a).1 refl) ((e b b).1 refl)
 verb_itself e verb.Hash = refl
 verb_itself e verb.Repr = refl
 verb_itself e verb.Iter = refl
@@ -289,20 +275,20 @@ verb_itself e verb.Next = refl
 verb_itself e verb.LengthHint = refl
 verb_itself e (verb.SetState a) = (e a a).1 refl
 verb_itself e (verb.Contains a) = (e a a).1 refl
-verb_itself e (verb.Hex a b) = both_true _ _ ((maybes_same e a a).1 refl) ((maybes_same e b b).1 refl)
+verb_itself e (verb.Hex a b) = both_hold _ _ ((maybes_same e a a).1 refl) ((maybes_same e b b).1 refl)
 verb_itself e (verb.Call a) = (calls_same e a a).1 refl
 
 from_verb : ValuesSame → (x y : Verb) → verb_eq.eq-value.it x y ≡ true → x ≡ y
 from_verb e verb.View verb.View h = refl
 from_verb e (verb.Range a b) (verb.Range c d) h =
-    ap (λ v. verb.Range v b) ((e a c).0 (both_parts _ _ h).0) ∙ ap (verb.Range c) ((e b d).0 (both_parts _ _ h).1)
+    ap (λ v. verb.Range v b) ((e a c).0 (both_of _ _ h).0) ∙ ap (verb.Range c) ((e b d).0 (both_of _ _ h).1)
 from_verb e (verb.Get a) (verb.Get c) h = ap verb.Get ((e a c).0 h)
 from_verb e (verb.Set a b) (verb.Set c d) h =
-    ap (λ v. verb.Set v b) ((e a c).0 (both_parts _ _ h).0) ∙ ap (verb.Set c) ((e b d).0 (both_parts _ _ h).1)
+    ap (λ v. verb.Set v b) ((e a c).0 (both_of _ _ h).0) ∙ ap (verb.Set c) ((e b d).0 (both_of _ _ h).1)
 from_verb e (verb.Cast a b) (verb.Cast c d) h =
-    ap (λ v. verb.Cast v b) ((e a c).0 (both_parts _ _ h).0) ∙ ap (verb.Cast c) ((maybes_same e b d).0 (both_parts _ _ h).1)
+    ap (λ v. verb.Cast v b) ((e a c).0 (both_of _ _ h).0) ∙ ap (verb.Cast c) ((maybes_same e b d).0 (both_of _ _ h).1)
 from_verb e (verb.CastF a b) (verb.CastF c d) h =
-    ap (λ v. verb.CastF v b) ((e a c).0 (both_parts _ _ h).0) ∙ ap (verb.CastF c) ((e b d).0 (both_parts _ _ h).1)
+    ap (λ v. verb.CastF v b) ((e a c).0 (both_of _ _ h).0) ∙ ap (verb.CastF c) ((e b d).0 (both_of _ _ h).1)
 from_verb e (verb.ToBytes a) (verb.ToBytes c) h = ap verb.ToBytes ((maybes_same e a c).0 h)
 from_verb e verb.Release verb.Release h = refl
 from_verb e verb.Enter verb.Enter h = refl
@@ -316,7 +302,7 @@ from_verb e (verb.Del a) (verb.Del c) h = ap verb.Del ((e a c).0 h)
 from_verb e (verb.Append a) (verb.Append c) h = ap verb.Append ((e a c).0 h)
 from_verb e (verb.Extend a) (verb.Extend c) h = ap verb.Extend ((e a c).0 h)
 from_verb e (verb.Insert a b) (verb.Insert c d) h =
-    ap (λ v. verb.Insert v b) ((e a c).0 (both_parts _ _ h).0) ∙ ap (verb.Insert c) ((e b d).0 (both_parts _ _ h).1)
+    ap (λ v. verb.Insert v b) ((e a c).0 (both_of _ _ h).0) ∙ ap (verb.Insert c) ((e b d).0 (both_of _ _ h).1)
 from_verb e (verb.Pop a) (verb.Pop c) h = ap verb.Pop ((maybes_same e a c).0 h)
 from_verb e (verb.Remove a) (verb.Remove c) h = ap verb.Remove ((e a c).0 h)
 from_verb e verb.Clear verb.Clear h = refl
@@ -327,7 +313,7 @@ from_verb e (verb.Init a) (verb.Init c) h = ap verb.Init ((options_same e a c).0
 from_verb e verb.Take verb.Take h = refl
 from_verb e verb.Copy verb.Copy h = refl
 from_verb e (verb.Compare a b) (verb.Compare c d) h =
-    ap (λ v. verb.Compare v b) ((ops_same a c).0 (both_parts _ _ h).0) ∙ ap (verb.Compare c) ((e b d).0 (both_parts _ _ h).1)
+    ap (λ v. verb.Compare v b) ((ops_same a c).0 (both_of _ _ h).0) ∙ ap (verb.Compare c) ((e b d).0 (both_of _ _ h).1)
 from_verb e verb.Hash verb.Hash h = refl
 from_verb e verb.Repr verb.Repr h = refl
 from_verb e verb.Iter verb.Iter h = refl
@@ -336,7 +322,7 @@ from_verb e verb.LengthHint verb.LengthHint h = refl
 from_verb e (verb.SetState a) (verb.SetState c) h = ap verb.SetState ((e a c).0 h)
 from_verb e (verb.Contains a) (verb.Contains c) h = ap verb.Contains ((e a c).0 h)
 from_verb e (verb.Hex a b) (verb.Hex c d) h =
-    ap (λ v. verb.Hex v b) ((maybes_same e a c).0 (both_parts _ _ h).0) ∙ ap (verb.Hex c) ((maybes_same e b d).0 (both_parts _ _ h).1)
+    ap (λ v. verb.Hex v b) ((maybes_same e a c).0 (both_of _ _ h).0) ∙ ap (verb.Hex c) ((maybes_same e b d).0 (both_of _ _ h).1)
 from_verb e (verb.Call a) (verb.Call c) h = ap verb.Call ((calls_same e a c).0 h)
 from_verb e _ _ h = absurd (false≢true h)
 
@@ -375,8 +361,8 @@ by_pair : (x y : ℕ × Loan) → (x.0 ≡ y.0) × (x.1 ≡ y.1) → x ≡ y
 by_pair x y p = ap (λ a. (a, x.1)) p.0 ∙ ap (λ a. (y.0, a)) p.1
 
 pairs_same : EqualExactly → (x y : ℕ × Loan) → Decides (equal_pairs x y) (x ≡ y)
-pairs_same e x y = moved (by_pair x y) (λ p. (ap (λ c. c.0) p, ap (λ c. c.1) p))
-    (and_decided _ _ (Decides-eqb x.0 y.0) (decided loan_eq.eq-value.it (loan_itself e) (from_loan e) x.1 y.1))
+pairs_same e x y = decided_alike (by_pair x y) (λ p. (ap (λ c. c.0) p, ap (λ c. c.1) p))
+    (both_decided _ _ (Decides-eqb x.0 y.0) (decided loan_eq.eq-value.it (loan_itself e) (from_loan e) x.1 y.1))
 
 loans_same : EqualExactly → (xs ys : List (ℕ × Loan)) → Decides (pointwise equal_pairs xs ys) (xs ≡ ys)
 loans_same e xs ys = slice_eq-Decides (pairs_same e) xs ys (pointwise equal_pairs xs ys) refl
@@ -392,6 +378,6 @@ by_command x y p =
     ∙ ap (command_with y.subject y.verb) p.1.1
 
 pub commands_same : EqualExactly → EqualCommandsAreTheSame
-commands_same e x y = moved (by_command x y) (λ p. (ap (λ c. c.subject) p, (ap (λ c. c.verb) p, ap (λ c. c.loans) p)))
-    (and_decided _ _ (decided subject_eq.eq-value.it subject_itself from_subject x.subject y.subject)
-    (and_decided _ _ (verbs_same e.values x.verb y.verb) (loans_same e x.loans y.loans)))
+commands_same e x y = decided_alike (by_command x y) (λ p. (ap (λ c. c.subject) p, (ap (λ c. c.verb) p, ap (λ c. c.loans) p)))
+    (both_decided _ _ (decided subject_eq.eq-value.it subject_itself from_subject x.subject y.subject)
+    (both_decided _ _ (verbs_same e.values x.verb y.verb) (loans_same e x.loans y.loans)))

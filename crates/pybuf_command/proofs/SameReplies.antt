@@ -1,5 +1,5 @@
 -- Two replies are equal by Rust's `==` exactly if they are the same.
-use Rattle.std.proofs.Common.{◌≡◌, ℕ, ℤ, Bool, true, false, ◌&&◌, List, refl, ap, sym, ◌∙◌, subst}
+use Rattle.std.proofs.Common.{◌≡◌, ℕ, ℤ, Bool, true, false, List, refl, ap, sym, ◌∙◌, subst}
 use Rattle.std.specs.Bool.{Decides}
 use Rattle.std.specs.Str.{bytes_eq}
 use Rattle.std.specs.Ordering.{int_eq}
@@ -8,6 +8,7 @@ use Rattle.std.proofs.lemmas.Bool.{false≢true}
 use Rattle.std.proofs.lemmas.Bool.Decides.{Decides-eqb, Decides-int_eq}
 use Rattle.std.proofs.lemmas.Slice.Eq.{bytes_eq-Decides, slice_eq-Decides}
 use Rattle.std.specs.contracts.prelude.BoolPartialEq.TheImpl as bool_eq
+use Rattle.pybuf_lemmas.proofs.Booleans.{both_of, both_hold}
 use Rattle.pybuf_value.specs.declared.faults.Fault.{Fault}
 use Rattle.pybuf_value.specs.declared.faults.Fault.TheVariants as fault
 use Rattle.pybuf_value.specs.declared.values.Item.{Item}
@@ -18,15 +19,6 @@ use Rattle.pybuf_command.specs.declared.commands.LocalReply.{LocalReply}
 use Rattle.pybuf_command.specs.declared.commands.LocalReply.TheVariants as reply
 use Rattle.pybuf_command.specs.contracts.commands.LocalReplyPartialEq.TheImpl as reply_eq
 use Rattle.pybuf_command.specs.Laws.{EqualRepliesAreTheSame}
-
-both_parts : (a b : Bool) → a && b ≡ true → (a ≡ true) × (b ≡ true)
-both_parts true true h = (refl, refl)
-both_parts true false h = absurd (false≢true h)
-both_parts false b h = absurd (false≢true h)
-
-both_true : (a b : Bool) → a ≡ true → b ≡ true → a && b ≡ true
-both_true true b p q = q
-both_true false b p q = p
 
 bools_same : (a b : Bool) → Decides (bool_eq.eq-value.it a b) (a ≡ b)
 bools_same true true = (λ _. refl, λ _. refl)
@@ -71,7 +63,7 @@ reply_itself e (reply.Iter n) = (Decides-eqb n n).1 refl
 reply_itself e reply.Itself = refl
 reply_itself e reply.Own = refl
 reply_itself e (reply.Item x) = (e.items x x).1 refl
-reply_itself e (reply.Items shape items) = both_true _ _ ((bytes_eq-Decides shape shape).1 refl) ((item_lists_same e items items).1 refl)
+reply_itself e (reply.Items shape items) = both_hold _ _ ((bytes_eq-Decides shape shape).1 refl) ((item_lists_same e items items).1 refl)
 reply_itself e (reply.Bytes bytes) = (bytes_eq-Decides bytes bytes).1 refl
 reply_itself e (reply.Text text) = (bytes_eq-Decides text text).1 refl
 reply_itself e (reply.Shown text) = (bytes_eq-Decides text text).1 refl
@@ -91,7 +83,7 @@ from_reply e reply.Itself reply.Itself h = refl
 from_reply e reply.Own reply.Own h = refl
 from_reply e (reply.Item x) (reply.Item y) h = ap reply.Item ((e.items x y).0 h)
 from_reply e (reply.Items m xs) (reply.Items n ys) h =
-    ap (λ a. reply.Items a xs) ((bytes_eq-Decides m n).0 (both_parts _ _ h).0) ∙ ap (reply.Items n) ((item_lists_same e xs ys).0 (both_parts _ _ h).1)
+    ap (λ a. reply.Items a xs) ((bytes_eq-Decides m n).0 (both_of _ _ h).0) ∙ ap (reply.Items n) ((item_lists_same e xs ys).0 (both_of _ _ h).1)
 from_reply e (reply.Bytes x) (reply.Bytes y) h = ap reply.Bytes ((bytes_eq-Decides x y).0 h)
 from_reply e (reply.Text x) (reply.Text y) h = ap reply.Text ((bytes_eq-Decides x y).0 h)
 from_reply e (reply.Shown x) (reply.Shown y) h = ap reply.Shown ((bytes_eq-Decides x y).0 h)

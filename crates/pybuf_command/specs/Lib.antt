@@ -5,3 +5,4 @@ pub mod Handles
 pub mod Replies
 pub mod Shown
 pub mod Laws
+pub mod Facts

@@ -4,6 +4,7 @@ use Rattle.std.proofs.Math.Nat.{zero-div}
 use Rattle.std.proofs.lemmas.Int.{ints}
 use Rattle.std.specs.List.{AllByRecursion, range_with_len}
 use Rattle.std.proofs.lemmas.List.Elements.{recursion_from_All}
+use Rattle.pybuf_desc.specs.Facts.{length-places}
 use Rattle.pybuf_desc.specs.Layouts.{Layout, product}
 use Rattle.pybuf_desc.specs.Descriptor.{Descriptor, flat_descriptor, shape_of}
 use Rattle.pybuf_desc.specs.Places.{places, Stands}
@@ -11,7 +12,6 @@ use Rattle.pybuf_desc.specs.Valid.{IsInside, IsValid, IsPlaceable}
 use Rattle.pybuf_desc.specs.RowMajor.{IsContiguous}
 use Rattle.pybuf_desc.specs.Contiguous.{starts_from}
 use Rattle.pybuf_desc.specs.Casts.{cast_of, cast_count}
-use Rattle.pybuf_desc.proofs.Steps.{length-places}
 use Rattle.pybuf_desc.proofs.Products.{extent_of}
 use Rattle.pybuf_desc.proofs.Strides.{some_entries}
 use Rattle.pybuf_desc.proofs.Runs.{run, first-places, run_from_contiguous}

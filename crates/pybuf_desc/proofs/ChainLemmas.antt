@@ -2,6 +2,7 @@
 use Rattle.std.proofs.Common.{◌≡◌, refl, sym, ap, ap₂, ◌∙◌, ℕ, zero, suc, ◌+◌, ◌*◌, ◌/◌, ◌<◌, pos, List, [], ◌∷◌, ◌++◌, length, map, Bool, Option, Some, None, subst, mul-pos, zero-mul, arith}
 use Rattle.std.specs.List.{flat_map, range_with_len}
 use Rattle.std.proofs.lemmas.List.FromFn.{length-map-range_with_len}
+use Rattle.pybuf_lemmas.proofs.Numbers.{first_factor_positive, second_factor_positive}
 use Rattle.pybuf_desc.specs.Layouts.{Layout, product}
 use Rattle.pybuf_desc.specs.Contiguous.{starts_from}
 use Rattle.pybuf_desc.specs.Strides.{row_major_strides}
@@ -67,22 +68,13 @@ first_of_both : (xs ys : List ℕ) (n : ℕ) → first_of xs ≡ Some n → firs
 first_of_both [] ys n h = absurd (cc)
 first_of_both (x ∷ xs) ys n h = h
 
--- if a product is above 0, so is its first factor
-first_factor : (n m : ℕ) → 0 < n * m → 0 < n
-first_factor zero m some = absurd (let none : 0 * m ≡ 0 = omega arith in omega (arith, none, some))
-first_factor (suc n) m some = omega arith
-
-second_factor : (n m : ℕ) → 0 < n * m → 0 < m
-second_factor n zero some = absurd (let none : n * 0 ≡ 0 = omega arith in omega (arith, none, some))
-second_factor n (suc m) some = omega arith
-
 first_of_columns : (size : ℕ) (shape : List ℕ) (first : ℕ) → 0 < product shape → first_of (column_major_starts size shape first) ≡ Some first
 first_of_columns size [] first some = refl
-first_of_columns size (zero ∷ shape) first some = absurd (let none = first_factor 0 (product shape) some in omega (arith, none))
+first_of_columns size (zero ∷ shape) first some = absurd (let none = first_factor_positive 0 (product shape) some in omega (arith, none))
 first_of_columns size (suc n ∷ shape) first some =
     let here : first + 0 * size ≡ first = omega arith in
     first_of_both (column_major_starts (size * suc n) shape (first + 0 * size)) (flat_map (λ index. column_major_starts (size * suc n) shape (first + index * size)) (range_with_len 1 n)) first
-    (first_of_columns (size * suc n) shape (first + 0 * size) (second_factor (suc n) (product shape) some) ∙ ap (λ n. Some n) here)
+    (first_of_columns (size * suc n) shape (first + 0 * size) (second_factor_positive (suc n) (product shape) some) ∙ ap (λ n. Some n) here)
 
 first_of_column_cast : (starts : List ℕ) (size : ℕ) (shape : List ℕ) → (0 < length starts → 0 < product shape) → first_of (column_starts_from starts size shape) ≡ first_of starts
 first_of_column_cast [] size shape some = refl
@@ -102,7 +94,7 @@ whole_count (InColumns format size shape) bytes some whole = sym whole
 -- if the view has items, so has the cast
 some_count : (cast : Cast) (view : Layout) → 0 < view.itemsize → CanBeCast view cast → 0 < length view.starts → 0 < count_by cast (bytes_of_view view)
 some_count cast view sized can some =
-    first_factor (count_by cast (bytes_of_view view)) (size_of_cast cast) (subst (λ n. 0 < n) (sym (whole_count cast (bytes_of_view view) can.some can.whole)) (mul-pos some sized))
+    first_factor_positive (count_by cast (bytes_of_view view)) (size_of_cast cast) (subst (λ n. 0 < n) (sym (whole_count cast (bytes_of_view view) can.some can.whole)) (mul-pos some sized))
 
 first_kept : (cast : Cast) (view : Layout) → 0 < view.itemsize → CanBeCast view cast → first_of (after_cast cast view).starts ≡ first_of view.starts
 first_kept (Flat format size) view sized can = first_of_run view.starts size (bytes_of_view view / size) (some_count (Flat format size) view sized can)

@@ -6,6 +6,7 @@ use Rattle.std.proofs.Math.Nat.{le-mul_of_pos_right}
 use Rattle.std.proofs.lemmas.Bool.{cases_lt}
 use Rattle.std.proofs.lemmas.List.Elements.{All-nil, All-from_recursion}
 use Rattle.std.proofs.lemmas.List.FromFn.{length-map-range_with_len, get_or-map-range_with_len}
+use Rattle.pybuf_lemmas.proofs.Numbers.{item_ends_before_next}
 use Rattle.pybuf_desc.specs.Layouts.{Layout, product, LiesInside}
 use Rattle.pybuf_desc.specs.Contiguous.{starts_from, is_contiguous_layout}
 use Rattle.pybuf_desc.specs.Apart.{AreApart, HasItemsApart}
@@ -13,7 +14,7 @@ use Rattle.pybuf_desc.specs.ColumnCasts.{column_major_starts, column_starts_from
 use Rattle.pybuf_desc.specs.Laws.{ColumnCastsStayInside, ColumnCastsLieApart}
 use Rattle.pybuf_desc.proofs.ColumnViews.{all-append}
 use Rattle.pybuf_desc.proofs.ItemRuns.{shaped_inside}
-use Rattle.pybuf_desc.proofs.ItemsApart.{next_after, Clear, Spread, spread-append, apart_of}
+use Rattle.pybuf_desc.proofs.ItemsApart.{Clear, Spread, spread-append, apart_of}
 
 all_each : {X : Type 0} (P Q : X → Type 0) (xs : List X) → AllByRecursion P xs → ((x : X) → P x → Q x) → AllByRecursion Q xs
 all_each P Q [] all each = tt
@@ -27,7 +28,7 @@ IsStep first size count place = (a : ℕ) × (a < count) × (place ≡ first + a
 
 next_step : (first size n p i b place : ℕ) → i < n → b < p → place ≡ first + i * size + b * (size * n) → IsStep first size (n * p) place
 next_step first size n p i b place below few is =
-    let ends : b * n + n ≤ p * n = next_after b p n few in
+    let ends : b * n + n ≤ p * n = item_ends_before_next b p n few in
     let turned : p * n ≡ n * p = mul_comm p n in
     let same : first + i * size + b * (size * n) ≡ first + (i + b * n) * size = grind arith in
     (i + b * n, omega (arith, ends, below, turned), is ∙ same)
@@ -82,15 +83,15 @@ behind_from size n shape first low a (suc k) least fits =
 blocks_clear : (first size n a b j c x y : ℕ) → a < j → j < n → x ≡ first + a * size + b * (size * n) → y ≡ first + j * size + c * (size * n) → Clear size x y
 blocks_clear first size n a b j c x y less below is there =
     let block : n * size ≡ size * n = mul_comm n size in
-    let ends : a * size + size ≤ n * size = next_after a n size (omega (arith, less, below)) in
-    let later : j * size + size ≤ n * size = next_after j n size below in
+    let ends : a * size + size ≤ n * size = item_ends_before_next a n size (omega (arith, less, below)) in
+    let later : j * size + size ≤ n * size = item_ends_before_next j n size below in
     elim (cases_lt b c) [
-      | inl before ↦ let rows : b * (size * n) + size * n ≤ c * (size * n) = next_after b c (size * n) before in inl (omega (arith, block, ends, rows, is, there))
+      | inl before ↦ let rows : b * (size * n) + size * n ≤ c * (size * n) = item_ends_before_next b c (size * n) before in inl (omega (arith, block, ends, rows, is, there))
       | inr after ↦ elim (cases_lt c b) [
-        | inl more ↦ let rows : c * (size * n) + size * n ≤ b * (size * n) = next_after c b (size * n) more in inr (omega (arith, block, later, rows, is, there))
+        | inl more ↦ let rows : c * (size * n) + size * n ≤ b * (size * n) = item_ends_before_next c b (size * n) more in inr (omega (arith, block, later, rows, is, there))
         | inr most ↦ let same : b ≡ c = omega (arith, after, most) in
             let row : b * (size * n) ≡ c * (size * n) = ap (λ (k : ℕ). k * (size * n)) same in
-            let next : a * size + size ≤ j * size = next_after a j size less in inl (omega (arith, row, next, is, there))
+            let next : a * size + size ≤ j * size = item_ends_before_next a j size less in inl (omega (arith, row, next, is, there))
       ]
     ]
 

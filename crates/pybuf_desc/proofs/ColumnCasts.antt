@@ -4,6 +4,9 @@ use Rattle.std.specs.Prelude.{All}
 use Rattle.std.specs.List.{AllByRecursion, range_with_len}
 use Rattle.std.proofs.lemmas.Int.{ints}
 use Rattle.std.proofs.lemmas.List.Elements.{All-nil, All-cons, All-head, All-tail, All-from_recursion}
+use Rattle.pybuf_lemmas.proofs.Numbers.{positive_is_nonzero}
+use Rattle.pybuf_lemmas.proofs.Lists.{sizes_of_naturals, map_of_flat_map, flat_map_same}
+use Rattle.pybuf_desc.specs.Facts.{positive_product}
 use Rattle.pybuf_desc.specs.Layouts.{Layout, product, HasItemsOfItsShape}
 use Rattle.pybuf_desc.specs.Contiguous.{starts_from}
 use Rattle.pybuf_desc.specs.Descriptor.{Descriptor, shape_of, strides_of}
@@ -16,10 +19,10 @@ use Rattle.pybuf_desc.proofs.Steps.{blocks_apart, places-cons}
 use Rattle.pybuf_desc.proofs.Products.{AreNonzero-from_All, product-extent}
 use Rattle.pybuf_desc.proofs.Runs.{run, map-run-0}
 use Rattle.pybuf_desc.proofs.CastFacts.{HasNoGap, bytes_inside, len_fits}
-use Rattle.pybuf_desc.proofs.ShapedCasts.{IsShapedCast, some_product, pos_some, later_dims}
-use Rattle.pybuf_desc.proofs.DescribedLayouts.{abs_of_pos, pos_of_run, first_place, items_of, described_shape}
+use Rattle.pybuf_desc.proofs.ShapedCasts.{IsShapedCast, later_dims}
+use Rattle.pybuf_desc.proofs.DescribedLayouts.{pos_of_run, first_place, items_of, described_shape}
 use Rattle.pybuf_desc.proofs.ColumnRuns.{column_from_strides, column_without_a_gap}
-use Rattle.pybuf_desc.proofs.ColumnViews.{map_of_flat_map, flat_map_same, all-append, columns_of_view, columns_alike}
+use Rattle.pybuf_desc.proofs.ColumnViews.{all-append, columns_of_view, columns_alike}
 
 -- ---- the dimensions
 
@@ -47,7 +50,7 @@ some_dims size (n ∷ shape) some =
 some_strides : (size : ℕ) (shape : List ℕ) → 0 < size → All (λ n. 0 < n) shape → All (λ (dim : ℕ × ℤ × ℤ). dim.1 ≢ pos 0) (column_major_dims size shape)
 some_strides size [] sized some = All-nil (λ (dim : ℕ × ℤ × ℤ). dim.1 ≢ pos 0)
 some_strides size (n ∷ shape) sized some =
-    All-cons (λ (dim : ℕ × ℤ × ℤ). dim.1 ≢ pos 0) (n, pos size, pos 0) (column_major_dims (size * n) shape) (pos_some size sized)
+    All-cons (λ (dim : ℕ × ℤ × ℤ). dim.1 ≢ pos 0) (n, pos size, pos 0) (column_major_dims (size * n) shape) (positive_is_nonzero size sized)
     (some_strides (size * n) shape (mul-pos sized (All-head (λ m. 0 < m) n shape some)) (All-tail (λ m. 0 < m) n shape some))
 
 no_suboffsets : (size : ℕ) (shape : List ℕ) → All (λ (dim : ℕ × ℤ × ℤ). dim.2 ≡ pos 0) (column_major_dims size shape)
@@ -83,7 +86,7 @@ pub valid_column : (d : Descriptor) (format : List ℕ) (size : ℕ) (shape : Li
 valid_column d format size shape can gapless cast start room valid =
     let dims = column_major_dims size shape in
     let some = some_dims size shape cast.some in
-    let bytes : 0 < d.len = subst (λ (n : ℕ). 0 < n) cast.whole (mul-pos cast.sized (some_product shape cast.some)) in
+    let bytes : 0 < d.len = subst (λ (n : ℕ). 0 < n) cast.whole (mul-pos cast.sized (positive_product shape cast.some)) in
     let end : start + d.len ≤ room = bytes_inside d start room gapless valid bytes in
     let count : size * product (shape_of dims) ≡ d.len = ap (λ (ns : List ℕ). size * product ns) (shape-column_major size shape) ∙ cast.whole in
     let total : size * product shape ≡ d.len = cast.whole in
@@ -127,7 +130,7 @@ some_items size (suc n) len e some = omega arith
 pub stands_column : (d : Descriptor) (format : List ℕ) (size : ℕ) (shape : List ℕ) → IsPlaceable d → IsShapedCast d size shape
     → (start : ℕ) (view : Layout) → Stands d start view → Stands (column_cast d format size shape) start (column_cast_to view format size shape)
 stands_column d format size shape can cast start view stands =
-    let bytes : 0 < d.len = subst (λ (n : ℕ). 0 < n) cast.whole (mul-pos cast.sized (some_product shape cast.some)) in
+    let bytes : 0 < d.len = subst (λ (n : ℕ). 0 < n) cast.whole (mul-pos cast.sized (positive_product shape cast.some)) in
     let count : 0 < length view.starts = some_items d.itemsize (length view.starts) d.len (ap (λ (n : ℕ). d.itemsize * n) (items_of d start view stands) ∙ can.placed.valid.len) bytes in
     record {
       format = refl;
@@ -179,7 +182,7 @@ columns_made format size shape readonly first =
     ∙ ap (λ (ns : List ℕ). run size (pos first) (product ns)) (shape-column_major size shape)
     ∙ sym (map-run-0 size (product shape) (pos first))
     ∙ pos_of_run first size (range_with_len 0 (product shape)) in
-    sym (abs_of_pos (column_starts made)) ∙ ap (map nat_abs) same ∙ abs_of_pos run_of
+    sym (sizes_of_naturals (column_starts made)) ∙ ap (map nat_abs) same ∙ sizes_of_naturals run_of
 
 columns_from : (format : List ℕ) (size : ℕ) (shape : List ℕ) (readonly : Bool) (starts : List ℕ) → 0 < length starts
     → column_starts (record { format = format; itemsize = size; shape = shape; starts = column_starts_from starts size shape; strides = column_major_strides size shape; readonly = readonly }) ≡ starts_from starts size (product shape)
@@ -236,7 +239,7 @@ all_drop (suc i) (n ∷ shape) all = all_drop i shape (All-tail (λ m. 0 < m) n 
 -- the size that a step reaches fits `isize`
 pub step_fits : (itemsize size i : ℕ) (shape : List ℕ) → All (λ n. 0 < n) shape → itemsize * product shape < 2 ^ 63 → size * product (drop i shape) ≡ itemsize * product shape → size < 2 ^ 63
 step_fits itemsize size i shape some fits e =
-    let more : size ≤ size * product (drop i shape) = le-mul_of_pos_right size (some_product (drop i shape) (all_drop i shape some)) in
+    let more : size ≤ size * product (drop i shape) = le-mul_of_pos_right size (positive_product (drop i shape) (all_drop i shape some)) in
     omega (arith, more, fits, e)
 
 pub next_step_fits : (itemsize size i : ℕ) (shape : List ℕ) → i < length shape → All (λ n. 0 < n) shape → itemsize * product shape < 2 ^ 63 → size * product (drop i shape) ≡ itemsize * product shape → size * get_or shape i 0 < 2 ^ 63

@@ -1,15 +1,16 @@
 -- The items of a view in column order are items of this view.
-use Rattle.std.proofs.Common.{◌≡◌, ℕ, zero, suc, ◌+◌, ◌*◌, ◌<◌, ◌≤◌, ℤ, pos, List, [], ◌∷◌, ◌++◌, length, map, flat_map, refl, ap, sym, ◌∙◌, subst, arith}
+use Rattle.std.proofs.Common.{◌≡◌, ℕ, zero, suc, ◌+◌, ◌*◌, ◌<◌, ◌≤◌, ℤ, pos, List, [], ◌∷◌, length, map, flat_map, refl, ap, sym, subst, arith}
 use Rattle.std.specs.List.{All, AllByRecursion, range_with_len}
 use Rattle.std.proofs.lemmas.List.Elements.{All-from_recursion}
 use Rattle.std.proofs.lemmas.Simd.{map-map}
+use Rattle.pybuf_lemmas.proofs.Lists.{flat_map_of_none}
 use Rattle.pybuf_desc.specs.Layouts.{Layout, product, HasItemsOfItsShape, LiesInside}
 use Rattle.pybuf_desc.specs.Descriptor.{shape_of}
 use Rattle.pybuf_desc.specs.Positions.{AreIndices, number_of_item}
 use Rattle.pybuf_desc.specs.ColumnOrder.{number_at, start_at, column_index_lists, column_starts, columns_of}
 use Rattle.pybuf_desc.proofs.Indices.{number_below}
 use Rattle.pybuf_desc.proofs.ColumnRuns.{length-column_places}
-use Rattle.pybuf_desc.proofs.ColumnViews.{column_indices, map_same, number_is}
+use Rattle.pybuf_desc.proofs.ColumnViews.{column_indices, number_is}
 use Rattle.pybuf_desc.proofs.ColumnWalks.{all_mapped}
 
 -- dimensions of these entries
@@ -37,14 +38,9 @@ columns_inside room view counted inside =
     (all_mapped (λ indices. number_at view.shape indices < product view.shape) (λ start. start + view.itemsize ≤ room) (start_at view) (column_index_lists view.shape) (below view.shape)
     (λ indices small. inside (number_at view.shape indices) 0 (subst (λ (n : ℕ). number_at view.shape indices < n) (sym counted) small)))
 
--- a list of lists is empty if each of its lists is
-none_of : {X Y : Type 0} (f : X → List Y) (xs : List X) → ((x : X) → f x ≡ []) → flat_map f xs ≡ []
-none_of f [] each = refl
-none_of f (x ∷ xs) each = ap (λ ys. ys ++ flat_map f xs) (each x) ∙ none_of f xs each
-
 no_lists : (shape : List ℕ) → product shape ≡ 0 → column_index_lists shape ≡ []
 no_lists [] none = absurd (omega (arith, none))
-no_lists (zero ∷ shape) none = none_of (λ (indices : List ℕ). map (λ index. index ∷ indices) (range_with_len 0 0)) (column_index_lists shape) (λ indices. refl)
+no_lists (zero ∷ shape) none = flat_map_of_none (λ (indices : List ℕ). map (λ index. index ∷ indices) (range_with_len 0 0)) (column_index_lists shape) (λ indices. refl)
 no_lists (suc n ∷ shape) none =
     ap (flat_map (λ (indices : List ℕ). map (λ index. index ∷ indices) (range_with_len 0 (suc n)))) (no_lists shape (omega (arith, none)))
 

@@ -2,12 +2,12 @@
 use Rattle.std.proofs.Common.{◌≡◌, ℕ, zero, suc, ◌+◌, ◌*◌, ◌<◌, ℤ, pos, ◌+ℤ◌, ◌*ℤ◌, List, [], ◌∷◌, ◌++◌, length, length-append, map, flat_map, refl, ap, ap₂, sym, ◌∙◌, subst, arith, zero-mul, mul_comm, ◌↔◌}
 use Rattle.std.specs.List.{range_with_len}
 use Rattle.std.proofs.lemmas.Int.{ints}
+use Rattle.pybuf_lemmas.proofs.Integers.{next_place, zeroth_place}
 use Rattle.pybuf_desc.specs.Layouts.{product}
 use Rattle.pybuf_desc.specs.Descriptor.{shape_of}
 use Rattle.pybuf_desc.specs.RowMajor.{IsContiguous}
 use Rattle.pybuf_desc.specs.ColumnMajor.{column_places, AreColumnMajorStrides}
 use Rattle.pybuf_desc.specs.Segments.{line}
-use Rattle.pybuf_desc.proofs.Steps.{next_place, zeroth_place}
 use Rattle.pybuf_desc.proofs.Products.{AreNonzero, product-pos}
 use Rattle.pybuf_desc.proofs.Runs.{run, run-add, length-run, map-run-0, append_parts}
 use Rattle.pybuf_desc.proofs.Strides.{no_place}

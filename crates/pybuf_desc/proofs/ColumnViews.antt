@@ -5,10 +5,11 @@ use Rattle.std.specs.Prelude.{bytes_eq}
 use Rattle.std.specs.Bool.{Decides}
 use Rattle.std.proofs.lemmas.Bool.{ne_eqb}
 use Rattle.std.proofs.lemmas.Int.{ints}
-use Rattle.std.proofs.lemmas.List.{map-append}
 use Rattle.std.proofs.lemmas.List.Folds.{flat_map-map}
 use Rattle.std.proofs.lemmas.Simd.{map-map}
 use Rattle.std.proofs.lemmas.Slice.Eq.{bytes_eq-Decides}
+use Rattle.pybuf_lemmas.proofs.Lists.{flat_map_same, map_of_flat_map, map_same, sizes_of_naturals}
+use Rattle.pybuf_lemmas.proofs.Integers.{last_terms_swap}
 use Rattle.pybuf_desc.specs.Layouts.{Layout, product}
 use Rattle.pybuf_desc.specs.Contiguous.{starts_from}
 use Rattle.pybuf_desc.specs.Descriptor.{Descriptor, shape_of, strides_of}
@@ -19,22 +20,10 @@ use Rattle.pybuf_desc.specs.ColumnOrder.{number_at, start_at, column_index_lists
 use Rattle.pybuf_desc.specs.ColumnMajor.{column_places, AreColumnMajorStrides, AreColumnMajor, HasColumnMajorStrides}
 use Rattle.pybuf_desc.proofs.Indices.{place_of_item}
 use Rattle.pybuf_desc.proofs.Strides.{some_entries, no_place}
-use Rattle.pybuf_desc.proofs.DescribedLayouts.{abs_of_pos, pos_of_run, first_place, same_tests, items_of}
+use Rattle.pybuf_desc.proofs.DescribedLayouts.{pos_of_run, first_place, same_tests, items_of}
 use Rattle.pybuf_desc.proofs.ColumnRuns.{length-column_places, column_by_strides}
 
 -- ---- lists
-
-pub flat_map_same : {X A : Type 0} (g h : X → List A) (xs : List X) → ((x : X) → g x ≡ h x) → flat_map g xs ≡ flat_map h xs
-flat_map_same g h [] e = refl
-flat_map_same g h (x ∷ xs) e = ap₂ (λ ys zs. ys ++ zs) (e x) (flat_map_same g h xs e)
-
-pub map_of_flat_map : {X A B : Type 0} (f : A → B) (g : X → List A) (xs : List X) → map f (flat_map g xs) ≡ flat_map (λ x. map f (g x)) xs
-map_of_flat_map f g [] = refl
-map_of_flat_map f g (x ∷ xs) = map-append f (g x) (flat_map g xs) ∙ ap (λ ys. map f (g x) ++ ys) (map_of_flat_map f g xs)
-
-pub map_same : {X A : Type 0} (f g : X → A) (xs : List X) → ((x : X) → f x ≡ g x) → map f xs ≡ map g xs
-map_same f g [] e = refl
-map_same f g (x ∷ xs) e = ap₂ (λ y ys. y ∷ ys) (e x) (map_same f g xs e)
 
 -- two maps agree on a list if they agree wherever a property holds, and it holds of the whole list
 map_where : {X A : Type 0} (P : X → Type 0) (f g : X → A) (xs : List X) → AllByRecursion P xs → ((x : X) → P x → f x ≡ g x) → map f xs ≡ map g xs
@@ -62,9 +51,6 @@ column_indices (dim ∷ dims) =
     all_of_each (λ indices. AreIndices indices dims) (λ indices. AreIndices indices (dim ∷ dims)) (λ (indices : List ℕ). map (λ index. index ∷ indices) (range_with_len 0 dim.0)) (column_index_lists (shape_of dims))
     (λ indices h. first_index dim dims indices 0 dim.0 (omega arith) h) (column_indices dims)
 
-index_moves : (p a b : ℤ) → p +ℤ a +ℤ b ≡ p +ℤ (b +ℤ a)
-index_moves p a b = omega (arith, ints)
-
 -- the places in column order are the places at the indices in column order
 pub column_places_by_indices : (dims : List (ℕ × ℤ × ℤ)) (p : ℤ) → column_places dims p ≡ map (λ indices. p +ℤ offset_of indices dims) (column_index_lists (shape_of dims))
 column_places_by_indices [] p = ap (λ (q : ℤ). q ∷ []) (let e : p ≡ p +ℤ pos 0 = omega (arith, ints) in e)
@@ -72,7 +58,7 @@ column_places_by_indices (dim ∷ dims) p =
     ap (flat_map (λ q. map (λ index. q +ℤ pos index *ℤ dim.1) (range_with_len 0 dim.0))) (column_places_by_indices dims p)
     ∙ flat_map-map (λ q. map (λ index. q +ℤ pos index *ℤ dim.1) (range_with_len 0 dim.0)) (λ indices. p +ℤ offset_of indices dims) (column_index_lists (shape_of dims))
     ∙ flat_map_same (λ indices. map (λ index. p +ℤ offset_of indices dims +ℤ pos index *ℤ dim.1) (range_with_len 0 dim.0)) (λ indices. map (λ all. p +ℤ offset_of all (dim ∷ dims)) (map (λ index. index ∷ indices) (range_with_len 0 dim.0))) (column_index_lists (shape_of dims))
-    (λ indices. map_same (λ index. p +ℤ offset_of indices dims +ℤ pos index *ℤ dim.1) (λ index. p +ℤ offset_of (index ∷ indices) (dim ∷ dims)) (range_with_len 0 dim.0) (λ index. index_moves p (offset_of indices dims) (pos index *ℤ dim.1))
+    (λ indices. map_same (λ index. p +ℤ offset_of indices dims +ℤ pos index *ℤ dim.1) (λ index. p +ℤ offset_of (index ∷ indices) (dim ∷ dims)) (range_with_len 0 dim.0) (λ index. last_terms_swap p (offset_of indices dims) (pos index *ℤ dim.1))
     ∙ sym (map-map (λ all. p +ℤ offset_of all (dim ∷ dims)) (λ index. index ∷ indices) (range_with_len 0 dim.0)))
     ∙ sym (map_of_flat_map (λ all. p +ℤ offset_of all (dim ∷ dims)) (λ (indices : List ℕ). map (λ index. index ∷ indices) (range_with_len 0 dim.0)) (column_index_lists (shape_of dims)))
 
@@ -110,7 +96,7 @@ same_columns size s n columns start ps from same count =
     let run : List ℕ = map (λ k. s + k * size) (range_with_len 0 n) in
     let each : map (λ k. start +ℤ pos (k * size)) (range_with_len 0 (length ps)) ≡ map (λ x. pos x) run =
     ap (λ (m : ℕ). map (λ k. start +ℤ pos (k * size)) (range_with_len 0 m)) count ∙ ap (λ (p : ℤ). map (λ k. p +ℤ pos (k * size)) (range_with_len 0 n)) from ∙ pos_of_run s size (range_with_len 0 n) in (
-      (λ flat. sym (abs_of_pos columns) ∙ ap (map nat_abs) (sym same ∙ flat ∙ each) ∙ abs_of_pos run),
+      (λ flat. sym (sizes_of_naturals columns) ∙ ap (map nat_abs) (sym same ∙ flat ∙ each) ∙ sizes_of_naturals run),
       (λ flat. same ∙ ap (map (λ x. pos x)) flat ∙ sym each),
     )
 

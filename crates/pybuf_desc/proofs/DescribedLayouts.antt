@@ -1,5 +1,5 @@
 -- Views that descriptors stand for.
-use Rattle.std.proofs.Common.{◌≡◌, ℕ, zero, suc, ◌+◌, ◌*◌, ◌<◌, ◌≤◌, ℤ, pos, negsuc, ◌+ℤ◌, ◌≤ℤ◌, nat_abs, Bool, true, false, List, [], ◌∷◌, length, get_or, map, refl, ap, ap₂, sym, ◌∙◌, subst, arith, IsTrue, ◌↔◌}
+use Rattle.std.proofs.Common.{◌≡◌, ℕ, zero, suc, ◌+◌, ◌*◌, ◌<◌, ◌≤◌, ℤ, pos, ◌+ℤ◌, nat_abs, Bool, true, false, List, [], ◌∷◌, length, get_or, map, refl, ap, ap₂, sym, ◌∙◌, subst, arith, IsTrue, ◌↔◌}
 use Rattle.std.proofs.lemmas.Int.{ints}
 use Rattle.std.proofs.lemmas.List.{length-map}
 use Rattle.std.proofs.lemmas.List.Elements.{All-nil, All-cons, All-head, All-tail, recursion_from_All}
@@ -7,6 +7,9 @@ use Rattle.std.proofs.lemmas.Slice.Eq.{bytes_eq-Decides}
 use Rattle.std.specs.Prelude.{All, Some, slice_get}
 use Rattle.std.specs.Bool.{Decides}
 use Rattle.std.specs.List.{range_with_len}
+use Rattle.pybuf_lemmas.proofs.Lists.{sizes_of_naturals}
+use Rattle.pybuf_lemmas.proofs.Integers.{size_of_nonnegative}
+use Rattle.pybuf_desc.specs.Facts.{length-places}
 use Rattle.pybuf_desc.specs.Layouts.{Layout, LiesInside, HasItemsOfItsShape, product}
 use Rattle.pybuf_desc.specs.Contiguous.{starts_from, is_contiguous_layout}
 use Rattle.pybuf_desc.specs.Strides.{AreRowMajor, HasRowMajorStrides}
@@ -16,7 +19,6 @@ use Rattle.pybuf_desc.specs.Valid.{IsInside, IsValid, IsPlaced, IsPlaceable}
 use Rattle.pybuf_desc.specs.RowMajor.{IsContiguous, AreRowMajorStrides}
 use Rattle.pybuf_desc.specs.Positions.{AreIndices, offset_of, number_of_item}
 use Rattle.pybuf_desc.specs.Laws.{IsPosition}
-use Rattle.pybuf_desc.proofs.Steps.{length-places}
 use Rattle.pybuf_desc.proofs.Runs.{first-places}
 use Rattle.pybuf_desc.proofs.Strides.{contiguous_without_items, contiguous_by_strides, some_entries}
 use Rattle.pybuf_desc.proofs.Indices.{AreNonzero-from_indices, place_of_item, number_below}
@@ -24,18 +26,10 @@ use Rattle.pybuf_desc.proofs.Track.{here}
 
 -- ---- the view of a descriptor
 
-pub abs_of_pos : (xs : List ℕ) → map nat_abs (map (λ x. pos x) xs) ≡ xs
-abs_of_pos [] = refl
-abs_of_pos (x ∷ xs) = ap (λ (ys : List ℕ). x ∷ ys) (abs_of_pos xs)
-
-abs_back : (p : ℤ) → pos 0 ≤ℤ p → pos (nat_abs p) ≡ p
-abs_back (pos n) low = refl
-abs_back (negsuc n) low = absurd (omega (arith, ints))
-
 pos_of_abs : (size room : ℕ) (ps : List ℤ) → All (IsInside size room) ps → map (λ x. pos x) (map nat_abs ps) ≡ ps
 pos_of_abs size room [] all = refl
 pos_of_abs size room (p ∷ ps) all =
-    ap₂ (λ (q : ℤ) (qs : List ℤ). q ∷ qs) (abs_back p (All-head (IsInside size room) p ps all).low) (pos_of_abs size room ps (All-tail (IsInside size room) p ps all))
+    ap₂ (λ (q : ℤ) (qs : List ℤ). q ∷ qs) (size_of_nonnegative p (All-head (IsInside size room) p ps all).low) (pos_of_abs size room ps (All-tail (IsInside size room) p ps all))
 
 pub stands_at : (d : Descriptor) (start : ℕ) → IsPlaced d start → Stands d start (layout_at d start)
 stands_at d start placed = record {
@@ -48,7 +42,7 @@ stands_at d start placed = record {
 }
 
 pub starts_of_stands : (d : Descriptor) (start : ℕ) (view : Layout) → Stands d start view → map nat_abs (places d.dims (pos start)) ≡ view.starts
-starts_of_stands d start view stands = ap (map nat_abs) stands.starts ∙ abs_of_pos view.starts
+starts_of_stands d start view stands = ap (map nat_abs) stands.starts ∙ sizes_of_naturals view.starts
 
 pub one_view : (d : Descriptor) (start : ℕ) (view : Layout) → Stands d start view → view ≡ layout_at d start
 one_view d start view stands =
@@ -115,7 +109,7 @@ same_run size (s ∷ starts) start ps same first =
     let run : List ℕ = starts_from (s ∷ starts) size (length (s ∷ starts)) in
     let each : map (λ k. start +ℤ pos (k * size)) (range_with_len 0 (length ps)) ≡ map (λ x. pos x) run =
     ap (λ (n : ℕ). map (λ k. start +ℤ pos (k * size)) (range_with_len 0 n)) count ∙ ap (λ (p : ℤ). map (λ k. p +ℤ pos (k * size)) (range_with_len 0 (length (s ∷ starts)))) from ∙ pos_of_run s size (range_with_len 0 (length (s ∷ starts))) in (
-      (λ flat. sym (abs_of_pos (s ∷ starts)) ∙ ap (map nat_abs) (sym same ∙ flat ∙ each) ∙ abs_of_pos run),
+      (λ flat. sym (sizes_of_naturals (s ∷ starts)) ∙ ap (map nat_abs) (sym same ∙ flat ∙ each) ∙ sizes_of_naturals run),
       (λ flat. same ∙ ap (map (λ x. pos x)) flat ∙ sym each),
     )
 

@@ -3,6 +3,7 @@ use Rattle.std.proofs.Common.{◌≡◌, ◌≢◌, ℕ, zero, suc, ◌+◌, ◌
 use Rattle.std.proofs.lemmas.Int.{ints}
 use Rattle.std.specs.List.{range_with_len}
 use Rattle.std.proofs.lemmas.List.Elements.{All-nil, All-cons, All-from_recursion}
+use Rattle.pybuf_lemmas.proofs.Numbers.{positive_is_nonzero}
 use Rattle.pybuf_desc.specs.Layouts.{flat_layout, bytes_layout, bytes_layout_from}
 use Rattle.pybuf_desc.specs.Descriptor.{flat_descriptor}
 use Rattle.pybuf_desc.specs.Places.{places, Stands}
@@ -10,10 +11,6 @@ use Rattle.pybuf_desc.specs.Valid.{IsInside, IsValid}
 use Rattle.pybuf_desc.proofs.Inside.{inside_from_reach}
 use Rattle.pybuf_desc.proofs.Products.{extent_of}
 use Rattle.pybuf_desc.proofs.Runs.{run, map-run-0, places_from_strides}
-
-pos_some : (n : ℕ) → 0 < n → pos n ≢ pos 0
-pos_some zero h e = omega arith
-pos_some (suc n) h e = cc
 
 extent_flat : (size count len : ℕ) → count * size ≡ len → size < 2 ^ 63 → len < 2 ^ 63 → size * extent_of ((count, pos size, pos 0) ∷ []) < 2 ^ 63
 extent_flat size zero len e f g = subst (λ n. n < 2 ^ 63) (sym (mul-one size)) f
@@ -42,7 +39,7 @@ valid_flat_at format size count len start room readonly some fits e len_fits ins
       some_size = some;
       size_fits = fits;
       few_dimensions = lit≤ tt;
-      strides = All-cons (λ dim. dim.1 ≢ pos 0) (count, pos size, pos 0) [] (pos_some size some) (All-nil (λ dim. dim.1 ≢ pos 0));
+      strides = All-cons (λ dim. dim.1 ≢ pos 0) (count, pos size, pos 0) [] (positive_is_nonzero size some) (All-nil (λ dim. dim.1 ≢ pos 0));
       suboffsets = All-cons (λ dim. dim.2 ≡ pos 0) (count, pos size, pos 0) [] refl (All-nil (λ dim. dim.2 ≡ pos 0));
       later_entries = All-nil (λ dim. 0 < dim.0);
       extent_fits = extent_flat size count len e fits len_fits;

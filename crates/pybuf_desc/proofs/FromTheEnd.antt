@@ -1,10 +1,10 @@
 -- Positions by indices that may count from the end, one dimension after the other.
-use Rattle.std.proofs.Common.{◌≡◌, ℕ, zero, suc, ◌+◌, ◌<◌, ◌≤◌, ℤ, pos, negsuc, ◌+ℤ◌, ◌*ℤ◌, List, [], ◌∷◌, length, get_or, drop, drop-cons, drop_of_length-le, add-one, refl, ap, ap₂, sym, ◌∙◌, subst, arith, Result, Ok, Err, Option, Some, None, Contains, slice_get, All, ◌≢◌, pos_of_ne-zero}
+use Rattle.std.proofs.Common.{◌≡◌, ℕ, zero, suc, ◌+◌, ◌<◌, ◌≤◌, ℤ, pos, negsuc, ◌+ℤ◌, ◌*ℤ◌, List, [], ◌∷◌, length, get_or, drop, drop-cons, drop_of_length-le, add-one, refl, ap, ap₂, sym, ◌∙◌, subst, arith, Result, Ok, Err, Some, Contains, slice_get, All, ◌≢◌, pos_of_ne-zero}
 use Rattle.std.proofs.lemmas.Int.{ints}
+use Rattle.pybuf_index.specs.Facts.{entry_below}
 use Rattle.pybuf_value.specs.declared.faults.Fault.{Fault}
 use Rattle.pybuf_value.specs.declared.faults.Fault.TheVariants as fault
 use Rattle.pybuf_value.specs.Refusing.{◌>>=◌}
-use Rattle.std.specs.Option.{ok_or}
 use Rattle.pybuf_index.specs.Places.{item_place, entry_in}
 use Rattle.pybuf_desc.specs.Places.{places}
 use Rattle.pybuf_desc.specs.Positions.{AreIndices, offset_of, number_of_item, position_of}
@@ -15,13 +15,6 @@ use Rattle.pybuf_desc.proofs.Products.{AreNonzero, AreNonzero-from_All}
 below : (n : ℕ) (z : ℤ) (i : ℕ) → item_place n z ≡ Some i → i < n
 below n (pos k) i e = grind (arith, e)
 below n (negsuc k) i e = grind (arith, e)
-
-is_place : (place : Option ℕ) (f : Fault) (i : ℕ) → ok_or place f ≡ Ok i → place ≡ Some i
-is_place None f i e = absurd (cc)
-is_place (Some k) f i e = ap Some (let same : k ≡ i = cc in same)
-
-pub index_below : (n : ℕ) (z : ℤ) (i : ℕ) → entry_in n z ≡ Ok i → i < n
-index_below n z i e = below n z i (is_place (item_place n z) fault.Index i e)
 
 -- the step of the first dimension
 abbrev pub after_first : Result ℕ Fault → ℤ → Result ℤ Fault → Result ℤ Fault
@@ -103,7 +96,7 @@ found [] [] offset e q = record { indices = []; in_range = tt; sum = cc }
 found [] (dim ∷ dims) offset e q = absurd (let wrong : 0 ≡ length (dim ∷ dims) = e in omega arith)
 found (i ∷ indices) [] offset e q = absurd (let wrong : length (i ∷ indices) ≡ 0 = e in omega arith)
 found (i ∷ indices) (dim ∷ dims) offset e q =
-    found-cons dim dims (entry_in dim.0 i) (position_of indices dims) offset (index_below dim.0 i) (λ o p. found indices dims o (let l : length (i ∷ indices) ≡ length (dim ∷ dims) = e in omega arith) p) (sym (position-cons i indices dim dims) ∙ q)
+    found-cons dim dims (entry_in dim.0 i) (position_of indices dims) offset (entry_below dim.0 i) (λ o p. found indices dims o (let l : length (i ∷ indices) ≡ length (dim ∷ dims) = e in omega arith) p) (sym (position-cons i indices dim dims) ∙ q)
 
 contains_from_get : (xs : List ℤ) (k : ℕ) (x : ℤ) → slice_get xs k ≡ Some x → Contains xs x
 contains_from_get [] k x e = absurd (cc)

@@ -2,14 +2,15 @@
 use Rattle.std.proofs.Common.{◌≡◌, ℕ, zero, suc, ◌+◌, ◌*◌, ◌<◌, ◌≤◌, ℤ, pos, ◌+ℤ◌, ◌*ℤ◌, List, [], ◌∷◌, ◌++◌, length, get_or, drop, drop-cons, add-one, refl, ap, ap₂, sym, ◌∙◌, subst, arith, Result, Ok, Err, Some, slice_get, drop_of_length-le, suc-add, mul_comm}
 use Rattle.std.proofs.lemmas.Nat.{mul-add-lt}
 use Rattle.std.proofs.lemmas.Int.{ints}
+use Rattle.pybuf_lemmas.proofs.Integers.{zeroth_place, successor_times}
+use Rattle.pybuf_desc.specs.Facts.{length-places}
 use Rattle.pybuf_value.specs.declared.faults.Fault.{Fault}
 use Rattle.pybuf_desc.specs.Layouts.{product}
 use Rattle.pybuf_desc.specs.Descriptor.{shape_of}
 use Rattle.pybuf_desc.specs.Places.{places}
 use Rattle.pybuf_desc.specs.Positions.{AreIndices, offset_of, number_of_item}
-use Rattle.pybuf_desc.proofs.Steps.{blocks_apart, places-cons, length-places, zeroth_place}
+use Rattle.pybuf_desc.proofs.Steps.{blocks_apart, places-cons}
 use Rattle.pybuf_desc.proofs.Products.{AreNonzero}
-use Rattle.pybuf_desc.proofs.Track.{next_multiple'}
 
 -- a position counted on from an offset
 abbrev pub position_from : ℤ → Result ℤ Fault → Result ℤ Fault
@@ -102,7 +103,7 @@ item_in_blocks block size each (suc n) (suc i) k p t place h g e =
     ap (λ j. slice_get (blocks_apart block (suc n) p t) j) (let z : suc i * size + k ≡ length (block p) + (i * size + k) = (let l = each p in omega (arith, l)) in z)
     ∙ slice_get-right (block p) (blocks_apart block n (p +ℤ t) t) (i * size + k)
     ∙ item_in_blocks block size each n i k (p +ℤ t) t place (omega arith) g
-    (subst (λ q. slice_get (block q) k ≡ Some place) (let z : p +ℤ pos (suc i) *ℤ t ≡ p +ℤ t +ℤ pos i *ℤ t = omega (arith, ints, next_multiple' i t) in z) e)
+    (subst (λ q. slice_get (block q) k ≡ Some place) (let z : p +ℤ pos (suc i) *ℤ t ≡ p +ℤ t +ℤ pos i *ℤ t = omega (arith, ints, successor_times i t) in z) e)
 
 pub number_below : (indices : List ℕ) (dims : List (ℕ × ℤ × ℤ)) → AreIndices indices dims → number_of_item indices dims < product (shape_of dims)
 number_below [] [] h = omega arith

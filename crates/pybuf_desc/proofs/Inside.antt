@@ -3,6 +3,7 @@ use Rattle.std.proofs.Common.{◌≡◌, ℕ, zero, suc, ◌+◌, ◌-◌, ◌*�
 use Rattle.std.proofs.lemmas.List.Elements.{All-from_recursion, recursion_from_All}
 use Rattle.std.proofs.lemmas.Int.{ints}
 use Rattle.std.specs.List.{AllByRecursion}
+use Rattle.pybuf_lemmas.proofs.Recursion.{left_by_recursion, right_by_recursion}
 use Rattle.pybuf_desc.specs.Places.{places}
 use Rattle.pybuf_desc.specs.Valid.{IsInside}
 use Rattle.pybuf_desc.proofs.Products.{AreNonzero, AreNonzero-from_All}
@@ -11,14 +12,6 @@ use Rattle.pybuf_desc.proofs.Steps.{blocks_apart, places-cons}
 pub ByRec-append : {X : Type 0} (P : X → Type 0) (xs ys : List X) → AllByRecursion P xs → AllByRecursion P ys → AllByRecursion P (xs ++ ys)
 ByRec-append P [] ys h k = k
 ByRec-append P (x ∷ xs) ys h k = (h.0, ByRec-append P xs ys h.1 k)
-
-pub ByRec-left : {X : Type 0} (P : X → Type 0) (xs ys : List X) → AllByRecursion P (xs ++ ys) → AllByRecursion P xs
-ByRec-left P [] ys h = tt
-ByRec-left P (x ∷ xs) ys h = (h.0, ByRec-left P xs ys h.1)
-
-pub ByRec-right : {X : Type 0} (P : X → Type 0) (xs ys : List X) → AllByRecursion P (xs ++ ys) → AllByRecursion P ys
-ByRec-right P [] ys h = h
-ByRec-right P (x ∷ xs) ys h = ByRec-right P xs ys h.1
 
 -- how far a stride leads back, and how far it leads forth
 abbrev pub back : ℤ → ℕ
@@ -90,11 +83,11 @@ first_block size room a b k l p r = let low = r.least in let high = r.greatest i
 
 blocks_inside : (size room a b : ℕ) (block : ℤ → List ℤ) → ((q : ℤ) → AllByRecursion (IsInside size room) (block q) → Reaches size room a b q) → (n : ℕ) (p t : ℤ) → AllByRecursion (IsInside size room) (blocks_apart block (suc n) p t) → Reaches size room (n * back t + a) (n * forth t + b) p
 blocks_inside size room a b block f zero p t h =
-    let r : Reaches size room a b p = f p (ByRec-left (IsInside size room) (block p) [] h) in
+    let r : Reaches size room a b p = f p (left_by_recursion (IsInside size room) (block p) [] h) in
     first_block size room a b (back t) (forth t) p r
 blocks_inside size room a b block f (suc m) p t h =
-    all_blocks size room a b m p t (f p (ByRec-left (IsInside size room) (block p) (blocks_apart block (suc m) (p +ℤ t) t) h))
-    (blocks_inside size room a b block f m (p +ℤ t) t (ByRec-right (IsInside size room) (block p) (blocks_apart block (suc m) (p +ℤ t) t) h))
+    all_blocks size room a b m p t (f p (left_by_recursion (IsInside size room) (block p) (blocks_apart block (suc m) (p +ℤ t) t) h))
+    (blocks_inside size room a b block f m (p +ℤ t) t (right_by_recursion (IsInside size room) (block p) (blocks_apart block (suc m) (p +ℤ t) t) h))
 
 blocks_inside_n : (size room a b : ℕ) (block : ℤ → List ℤ) → ((q : ℤ) → AllByRecursion (IsInside size room) (block q) → Reaches size room a b q) → (n : ℕ) (p t : ℤ) → 0 < n → AllByRecursion (IsInside size room) (blocks_apart block n p t) → Reaches size room (gaps n * back t + a) (gaps n * forth t + b) p
 blocks_inside_n size room a b block f zero p t some h = absurd (omega arith)

@@ -7,6 +7,7 @@ use Rattle.std.proofs.lemmas.Option.{slice_get-get_or}
 use Rattle.std.proofs.lemmas.Slice.Eq.{bytes_eq-Decides}
 use Rattle.std.specs.Prelude.{Some, slice_get, slice_index, All}
 use Rattle.std.specs.List.{range_with_len, AllByRecursion}
+use Rattle.pybuf_lemmas.proofs.Numbers.{whole_quotient}
 use Rattle.pybuf_desc.specs.Layouts.{Layout, LiesInside, product}
 use Rattle.pybuf_desc.specs.Items.{bytes_of_items}
 use Rattle.pybuf_desc.specs.Contiguous.{starts_from, is_contiguous_layout}
@@ -43,15 +44,12 @@ pub bytes_from : (bytes : List ℕ) (size first n : ℕ) → bytes_of_items byte
 bytes_from bytes size first n =
     bytes_of_run bytes size first n 0 ∙ ap (λ (m : ℕ). take (n * size) (drop m bytes)) (let e : first + 0 * size ≡ first = omega arith in e)
 
-whole_count : (len size : ℕ) → len % size ≡ 0 → len / size * size ≡ len
-whole_count len size e = let d = div-add-mod' len size in omega (arith, d, e)
-
 same_bytes : (bytes starts : List ℕ) (itemsize size : ℕ) → starts ≡ starts_from starts itemsize (length starts) → length starts * itemsize % size ≡ 0
     → bytes_of_items bytes size (starts_from starts size (length starts * itemsize / size)) ≡ bytes_of_items bytes itemsize starts
 same_bytes bytes [] itemsize size flat whole = refl
 same_bytes bytes (first ∷ starts) itemsize size flat whole =
     bytes_from bytes size first (length (first ∷ starts) * itemsize / size)
-    ∙ ap (λ (m : ℕ). take m (drop first bytes)) (whole_count (length (first ∷ starts) * itemsize) size whole)
+    ∙ ap (λ (m : ℕ). take m (drop first bytes)) (whole_quotient (length (first ∷ starts) * itemsize) size whole)
     ∙ sym (ap (bytes_of_items bytes itemsize) flat ∙ bytes_from bytes itemsize first (length (first ∷ starts)))
 
 -- ---- the places of a run
@@ -70,7 +68,7 @@ start_at (first ∷ starts) size count k below =
 pub casts_share : (bytes : List ℕ) (view : Layout) (format : List ℕ) (size : ℕ) → is_contiguous_layout view ≡ true → 0 < size → length view.starts * view.itemsize % size ≡ 0
     → SharesBytes bytes view (cast_of view format size)
 casts_share bytes view format size told some whole = record {
-  count = ap (λ (n : ℕ). n * size) (length-cast view.starts view.itemsize size) ∙ whole_count (length view.starts * view.itemsize) size whole;
+  count = ap (λ (n : ℕ). n * size) (length-cast view.starts view.itemsize size) ∙ whole_quotient (length view.starts * view.itemsize) size whole;
   starts = λ k below. start_at view.starts size (cast_count view size) k below;
   content = same_bytes bytes view.starts view.itemsize size (starts_of_contiguous view told) whole;
   readonly = refl;

@@ -6,6 +6,7 @@ use Rattle.std.proofs.lemmas.List.FromFn.{length-range_with_len, get_or-range_wi
 use Rattle.std.proofs.lemmas.List.Elements.{All-nil, All-append, All-take, All-head, All-tail, All-from_get_or, All-get_or}
 use Rattle.std.specs.Prelude.{slice_index}
 use Rattle.std.specs.List.{range_with_len, flat_map}
+use Rattle.pybuf_lemmas.proofs.Numbers.{item_ends_before_next, either_order_turned}
 use Rattle.pybuf_index.specs.Picks.{comes_before}
 use Rattle.pybuf_index.specs.Parts.{SliceParts, picks_of}
 use Rattle.pybuf_desc.specs.Layouts.{Layout, product}
@@ -17,13 +18,10 @@ use Rattle.pybuf_desc.specs.Casts.{cast_count}
 
 -- ---- items one after the other
 
-pub next_after : (i j size : ℕ) → i < j → i * size + size ≤ j * size
-next_after i j size less = grind arith
-
 -- items are apart if item k starts at a place plus k sizes
 of_places : (size first : ℕ) (starts : List ℕ) → ((k : ℕ) → k < length starts → slice_index starts k ≡ first + k * size) → AreApart size starts
 of_places size first starts at i j less inside =
-    let ends : i * size + size ≤ j * size = next_after i j size less in
+    let ends : i * size + size ≤ j * size = item_ends_before_next i j size less in
     let one : slice_index starts i ≡ first + i * size = at i (omega (arith, less, inside)) in
     let two : slice_index starts j ≡ first + j * size = at j inside in
     inl (omega (arith, ends, one, two))
@@ -112,25 +110,21 @@ of_block P width starts i each =
     subst P (sym (get_or-take width (drop (i * width) starts) k 0 few ∙ get_or-drop (i * width) starts k 0))
     (each (i * width + k) (omega arith) (omega (arith, few)) there))
 
-either_way : (a b c d : ℕ) → (a ≤ b) ⊎ (c ≤ d) → (c ≤ d) ⊎ (a ≤ b)
-either_way a b c d (inl x) = inr x
-either_way a b c d (inr x) = inl x
-
 -- items with different numbers share no byte
 clear_at : (size : ℕ) (starts : List ℕ) (m n : ℕ) → AreApart size starts → m ≢ n → m < length starts → n < length starts → Clear size (slice_index starts m) (slice_index starts n)
 clear_at size starts m n apart other here there =
     elim (cases_lt m n) [
       | inl less ↦ apart m n less there
       | inr more ↦ let less : n < m = omega (arith, more, other) in
-          either_way (slice_index starts n + size) (slice_index starts m) (slice_index starts m + size) (slice_index starts n) (apart n m less here)
+          either_order_turned (slice_index starts n + size) (slice_index starts m) (slice_index starts m + size) (slice_index starts n) (apart n m less here)
     ]
 
 -- no place is in two blocks
 other_places : (width i j m n : ℕ) → i ≢ j → i * width ≤ m → m < i * width + width → j * width ≤ n → n < j * width + width → m ≢ n
 other_places width i j m n other low high low' high' same =
     elim (cases_lt i j) [
-      | inl less ↦ let ends = next_after i j width less in omega (arith, ends, low, high, low', high', same)
-      | inr more ↦ let less : j < i = omega (arith, more, other) in let ends = next_after j i width less in omega (arith, ends, low, high, low', high', same)
+      | inl less ↦ let ends = item_ends_before_next i j width less in omega (arith, ends, low, high, low', high', same)
+      | inr more ↦ let less : j < i = omega (arith, more, other) in let ends = item_ends_before_next j i width less in omega (arith, ends, low, high, low', high', same)
     ]
 
 -- an item of a block shares no byte with the items of the blocks at other indices

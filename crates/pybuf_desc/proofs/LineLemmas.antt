@@ -1,17 +1,9 @@
 -- Lines of a walk.
-use Rattle.std.proofs.Common.{◌≡◌, ℕ, ℤ, pos, Bool, true, List, [], ◌∷◌, ◌++◌, map, ap, sym, ◌∙◌, subst}
-use Rattle.std.specs.List.{AllByRecursion}
+use Rattle.std.proofs.Common.{◌≡◌, ℕ, ℤ, pos, Bool, true, List, ◌∷◌, ◌++◌, map, ap, sym, ◌∙◌, subst}
 use Rattle.std.proofs.lemmas.List.{map-append}
+use Rattle.pybuf_lemmas.proofs.Recursion.{left_by_recursion, right_by_recursion}
 use Rattle.pybuf_desc.specs.Segments.{line, range_at, IsWalk, rows_left, places_left}
 use Rattle.pybuf_desc.proofs.WalkLemmas.{AllInside}
-
-left-recursion : {X : Type 0} (P : X → Type 0) (xs ys : List X) → AllByRecursion P (xs ++ ys) → AllByRecursion P xs
-left-recursion P [] ys all = tt
-left-recursion P (x ∷ xs) ys all = (all.0, left-recursion P xs ys all.1)
-
-right-recursion : {X : Type 0} (P : X → Type 0) (xs ys : List X) → AllByRecursion P (xs ++ ys) → AllByRecursion P ys
-right-recursion P [] ys all = all
-right-recursion P (x ∷ xs) ys all = right-recursion P xs ys all.1
 
 -- ---- the next row is taken whole
 
@@ -21,12 +13,12 @@ rows_places stride row_len rows = places_left 0 stride 0 row_len rows
 pub row_inside : (place row_len size : ℕ) (stride : ℤ) (lefts rest : List ℤ) → lefts ≡ pos place ∷ rest → AllInside size (rows_places stride row_len lefts)
     → AllInside size (line (pos place) stride row_len)
 row_inside place row_len size stride lefts rest same all =
-    left-recursion _ (line (pos place) stride row_len) (rows_places stride row_len rest) (subst (λ xs. AllInside size (rows_places stride row_len xs)) same all)
+    left_by_recursion _ (line (pos place) stride row_len) (rows_places stride row_len rest) (subst (λ xs. AllInside size (rows_places stride row_len xs)) same all)
 
 pub rest_inside : (place row_len size : ℕ) (stride : ℤ) (lefts rest : List ℤ) → lefts ≡ pos place ∷ rest → AllInside size (rows_places stride row_len lefts)
     → AllInside size (rows_places stride row_len rest)
 rest_inside place row_len size stride lefts rest same all =
-    right-recursion _ (line (pos place) stride row_len) (rows_places stride row_len rest) (subst (λ xs. AllInside size (rows_places stride row_len xs)) same all)
+    right_by_recursion _ (line (pos place) stride row_len) (rows_places stride row_len rest) (subst (λ xs. AllInside size (rows_places stride row_len xs)) same all)
 
 pub row_ranges : (place row_len size : ℕ) (stride : ℤ) (lefts rest : List ℤ) → lefts ≡ pos place ∷ rest
     → map (range_at size) (rows_places stride row_len lefts) ≡ map (range_at size) (line (pos place) stride row_len) ++ map (range_at size) (rows_places stride row_len rest)
@@ -62,10 +54,10 @@ left_after_row place stride left row_len size rows none = sym (ap (λ (n : ℕ).
 -- ---- the rest of a row is taken
 
 pub begun_inside : (place : ℕ) (stride : ℤ) (left row_len size : ℕ) (rows : List ℤ) → AllInside size (places_left place stride left row_len rows) → AllInside size (line (pos place) stride left)
-begun_inside place stride left row_len size rows all = left-recursion _ (line (pos place) stride left) (rows_places stride row_len rows) all
+begun_inside place stride left row_len size rows all = left_by_recursion _ (line (pos place) stride left) (rows_places stride row_len rows) all
 
 pub others_inside : (place : ℕ) (stride : ℤ) (left row_len size : ℕ) (rows : List ℤ) → AllInside size (places_left place stride left row_len rows) → AllInside size (rows_places stride row_len rows)
-others_inside place stride left row_len size rows all = right-recursion _ (line (pos place) stride left) (rows_places stride row_len rows) all
+others_inside place stride left row_len size rows all = right_by_recursion _ (line (pos place) stride left) (rows_places stride row_len rows) all
 
 pub begun_ranges : (place : ℕ) (stride : ℤ) (left row_len size : ℕ) (rows : List ℤ)
     → map (range_at size) (places_left place stride left row_len rows) ≡ map (range_at size) (line (pos place) stride left) ++ map (range_at size) (rows_places stride row_len rows)

@@ -4,34 +4,26 @@ use Rattle.std.specs.Prelude.{All}
 use Rattle.std.specs.List.{range_with_len}
 use Rattle.std.specs.declared.ops.Range.{Range}
 use Rattle.std.proofs.lemmas.Grind.{flat_map-append}
-use Rattle.std.proofs.lemmas.List.{get_or_append_left, get_or-append-add, length-append, append-nil, map-append}
+use Rattle.std.proofs.lemmas.List.{append-nil, map-append}
 use Rattle.std.proofs.lemmas.List.FromFn.{length-range_with_len, get_or-range_with_len}
+use Rattle.pybuf_lemmas.proofs.Lists.{numbers_left, numbers_right}
+use Rattle.pybuf_lemmas.proofs.Numbers.{range_with_one_more}
 use Rattle.pybuf_strided.specs.Apart.{place_of, pieces_at}
 use Rattle.pybuf_desc.specs.Segments.{bytes_of, bytes_in}
 use Rattle.pybuf_desc.specs.SegmentLines.{range_on}
 use Rattle.pybuf_desc.specs.Laws.{LinesLieInside, LinesHaveTheirPieces}
-
-all_left : (P : ℕ → Type 0) (xs ys : List ℕ) → All P (xs ++ ys) → All P xs
-all_left P xs ys all = λ k d below.
-    let within : k < length (xs ++ ys) = omega (arith, below, length-append xs ys) in
-    subst P (get_or_append_left xs ys d k below) (all k d within)
-
-all_right : (P : ℕ → Type 0) (xs ys : List ℕ) → All P (xs ++ ys) → All P ys
-all_right P xs ys all = λ k d below.
-    let within : length xs + k < length (xs ++ ys) = omega (arith, below, length-append xs ys) in
-    subst P (get_or-append-add xs ys k d) (all (length xs + k) d within)
 
 -- what holds of each byte of all ranges holds of each byte of one range
 range_all : (P : ℕ → Type 0) (range : ℕ → Range ℕ) (j n k : ℕ) → All P (flat_map bytes_of (map range (range_with_len j n))) → k < n → All P (bytes_of (range (j + k)))
 range_all P range j zero k all less = absurd (omega (arith, less))
 range_all P range j (suc n) zero all less =
     let same : j ≡ j + 0 = omega arith in
-    subst (λ i. All P (bytes_of (range i))) same (all_left P (bytes_of (range j)) (flat_map bytes_of (map range (range_with_len (j + 1) n))) all)
+    subst (λ i. All P (bytes_of (range i))) same (numbers_left P (bytes_of (range j)) (flat_map bytes_of (map range (range_with_len (j + 1) n))) all)
 range_all P range j (suc n) (suc k) all less =
     let same : (j + 1) + k ≡ j + suc k = omega arith in
     let fewer : k < n = omega (arith, less) in
     subst (λ i. All P (bytes_of (range i))) same
-    (range_all P range (j + 1) n k (all_right P (bytes_of (range j)) (flat_map bytes_of (map range (range_with_len (j + 1) n))) all) fewer)
+    (range_all P range (j + 1) n k (numbers_right P (bytes_of (range j)) (flat_map bytes_of (map range (range_with_len (j + 1) n))) all) fewer)
 
 -- the last byte of a range is below the room, so its end is at most the room
 range_ends : (place size room : ℕ) → 0 < size → All (λ p. p < room) (range_with_len place ((place + size) - place)) → place + size ≤ room
@@ -58,12 +50,6 @@ lie_inside line room is all =
 
 -- ---- piece by piece
 
-one_more : (j n : ℕ) → range_with_len j (suc n) ≡ range_with_len j n ++ (j + n) ∷ []
-one_more j zero = let same : j ≡ j + 0 = omega arith in ap (λ (k : ℕ). k ∷ []) same
-one_more j (suc n) =
-    let same : (j + 1) + n ≡ j + suc n = omega arith in
-    ap (λ (xs : List ℕ). j ∷ xs) (one_more (j + 1) n ∙ ap (λ (k : ℕ). range_with_len (j + 1) n ++ k ∷ []) same)
-
 pieces_by_ranges : (bytes : List ℕ) (from : ℕ → ℕ) (size n : ℕ)
     → flat_map (bytes_in bytes) (map (λ k. record { start = from k; end = from k + size }) (range_with_len 0 n)) ≡ pieces_at bytes from size n
 pieces_by_ranges bytes from size zero = refl
@@ -71,7 +57,7 @@ pieces_by_ranges bytes from size (suc n) =
     let range : ℕ → Range ℕ = λ k. record { start = from k; end = from k + size } in
     let last : 0 + n ≡ n = omega arith in
     let whole : (from n + size) - from n ≡ size = omega arith in
-    ap (λ (ks : List ℕ). flat_map (bytes_in bytes) (map range ks)) (one_more 0 n ∙ ap (λ (k : ℕ). range_with_len 0 n ++ k ∷ []) last)
+    ap (λ (ks : List ℕ). flat_map (bytes_in bytes) (map range ks)) (range_with_one_more 0 n ∙ ap (λ (k : ℕ). range_with_len 0 n ++ k ∷ []) last)
     ∙ ap (flat_map (bytes_in bytes)) (map-append range (range_with_len 0 n) (n ∷ []))
     ∙ flat_map-append (bytes_in bytes) (map range (range_with_len 0 n)) (range n ∷ [])
     ∙ ap₂ (λ (xs ys : List ℕ). xs ++ ys) (pieces_by_ranges bytes from size n) (append-nil (bytes_in bytes (range n)) ∙ ap (λ (k : ℕ). take k (drop (from n) bytes)) whole)

@@ -5,6 +5,8 @@ use Rattle.std.specs.Prelude.{All}
 use Rattle.std.specs.List.{AllByRecursion, range_with_len}
 use Rattle.std.proofs.lemmas.Int.{ints}
 use Rattle.std.proofs.lemmas.List.Elements.{All-nil, All-cons, All-head, All-tail, All-from_recursion}
+use Rattle.pybuf_lemmas.proofs.Numbers.{positive_is_nonzero}
+use Rattle.pybuf_desc.specs.Facts.{as_many, positive_product}
 use Rattle.pybuf_desc.specs.Layouts.{Layout, product}
 use Rattle.pybuf_desc.specs.Descriptor.{Descriptor, shape_of}
 use Rattle.pybuf_desc.specs.Places.{places, Stands}
@@ -16,7 +18,7 @@ use Rattle.pybuf_desc.specs.PackedDescriptor.{row_major_descriptor}
 use Rattle.pybuf_desc.proofs.Products.{extent_of, extent_skips, extent_grows, AreNonzero-from_All, product-extent}
 use Rattle.pybuf_desc.proofs.Runs.{map-run-0}
 use Rattle.pybuf_desc.proofs.Flat.{map-pos}
-use Rattle.pybuf_desc.proofs.ShapedCasts.{shape-row_major, strides-row_major, length-row_major, no_suboffsets, places_row_major, run_inside, next_size, pos_some, some_product}
+use Rattle.pybuf_desc.proofs.ShapedCasts.{shape-row_major, strides-row_major, length-row_major, no_suboffsets, places_row_major, run_inside, next_size}
 
 -- ---- the later entries
 
@@ -98,12 +100,8 @@ some_strides_of : (size : ℕ) (dims : List (ℕ × ℤ × ℤ)) → 0 < size �
 some_strides_of size [] sized later = All-nil (λ (dim : ℕ × ℤ × ℤ). dim.1 ≢ pos 0)
 some_strides_of size (dim ∷ dims) sized later =
     All-cons (λ (d : ℕ × ℤ × ℤ). d.1 ≢ pos 0) (dim.0, pos (size * product (shape_of dims)), pos 0) (row_major_dims size (shape_of dims))
-    (pos_some (size * product (shape_of dims)) (mul-pos sized (some_product (shape_of dims) (entries_above dims later))))
+    (positive_is_nonzero (size * product (shape_of dims)) (mul-pos sized (positive_product (shape_of dims) (entries_above dims later))))
     (some_strides_of size dims sized (all_drop (λ (d : ℕ × ℤ × ℤ). 0 < d.0) 1 dims later))
-
-length-shape : (dims : List (ℕ × ℤ × ℤ)) → length (shape_of dims) ≡ length dims
-length-shape [] = refl
-length-shape (dim ∷ dims) = ap suc (length-shape dims)
 
 pub valid_row_major : (d : Descriptor) → IsPlaceable d → IsValid (row_major_descriptor d) 0 d.len
 valid_row_major d can =
@@ -115,7 +113,7 @@ valid_row_major d can =
     record {
       some_size = valid.some_size;
       size_fits = valid.size_fits;
-      few_dimensions = subst (λ (n : ℕ). n ≤ 64) (sym (length-row_major size shape ∙ length-shape d.dims)) valid.few_dimensions;
+      few_dimensions = subst (λ (n : ℕ). n ≤ 64) (sym (length-row_major size shape ∙ as_many d.dims)) valid.few_dimensions;
       strides = some_strides_of size d.dims valid.some_size valid.later_entries;
       suboffsets = no_suboffsets size shape;
       later_entries = drop-row_major size d.dims valid.later_entries;

@@ -5,6 +5,7 @@ use Rattle.std.proofs.lemmas.List.FromFn.{length-map-range_with_len}
 use Rattle.std.proofs.lemmas.List.Elements.{All-from_recursion, recursion_from_All}
 use Rattle.std.proofs.lemmas.Slice.Eq.{bytes_eq-Decides}
 use Rattle.std.specs.List.{range_with_len, AllByRecursion}
+use Rattle.pybuf_desc.specs.Facts.{whole_bytes}
 use Rattle.pybuf_desc.specs.Layouts.{product}
 use Rattle.pybuf_desc.specs.Items.{bytes_at, bytes_of_items, content_of_layout}
 use Rattle.pybuf_desc.specs.Contiguous.{starts_from}
@@ -14,9 +15,6 @@ use Rattle.pybuf_desc.specs.Laws.{CopiesHaveTheirBytes}
 use Rattle.pybuf_desc.proofs.ItemRuns.{bytes_from}
 
 -- ---- the bytes
-
-whole_bytes : (bytes : List ℕ) (size start : ℕ) → start + size ≤ length bytes → length (bytes_at bytes size start) ≡ size
-whole_bytes bytes size start inside = grind (arith, common_steps, inside)
 
 length_of_bytes : (bytes : List ℕ) (size : ℕ) (starts : List ℕ) → AllByRecursion (λ start. start + size ≤ length bytes) starts → length (bytes_of_items bytes size starts) ≡ length starts * size
 length_of_bytes bytes size [] all = sym (zero-mul size)

@@ -3,16 +3,15 @@ use Rattle.std.proofs.Common.{◌≡◌, ℕ, zero, suc, ◌+◌, ◌-◌, ◌*�
 use Rattle.std.specs.Prelude.{All}
 use Rattle.std.specs.List.{range_with_len, cons_option, filter_map}
 use Rattle.std.specs.declared.ops.Range.{Range}
-use Rattle.std.proofs.lemmas.Grind.{common_steps}
-use Rattle.std.proofs.lemmas.List.Elements.{filter_map-append, All-append, All-nil, All-cons, All-head, All-tail, All-from_recursion, recursion_from_All}
+use Rattle.std.proofs.lemmas.List.Elements.{filter_map-append, All-nil, All-cons}
 use Rattle.std.proofs.lemmas.List.FromFn.{length-range_with_len, get_or-range_with_len}
+use Rattle.pybuf_lemmas.proofs.Lists.{first_then_taken, items_inside, numbers_left, numbers_right}
 use Rattle.pybuf_desc.specs.Layouts.{product}
 use Rattle.pybuf_desc.specs.Items.{bytes_of_items}
 use Rattle.pybuf_desc.specs.Descriptor.{shape_of}
 use Rattle.pybuf_desc.specs.Places.{places}
 use Rattle.pybuf_desc.specs.Segments.{range_at, ranges_of, joined_dims, outer_dims, bytes_of, bytes_in, item_bytes}
 use Rattle.pybuf_desc.specs.Laws.{RangesHaveTheContent, RangesStayInside}
-use Rattle.pybuf_desc.proofs.Inside.{ByRec-left, ByRec-right}
 use Rattle.pybuf_desc.proofs.Products.{AreNonzero, product-pos}
 use Rattle.pybuf_desc.proofs.Strides.{some_entries}
 use Rattle.pybuf_desc.proofs.DescribedLayouts.{starts_of_stands}
@@ -24,17 +23,11 @@ use Rattle.pybuf_desc.proofs.SegmentFacts.{not_none, range_bytes}
 abbrev pub bytes_at_places : List ℕ → List ℕ → List ℕ
 bytes_at_places bytes places = filter_map (slice_get bytes) places
 
-first_taken : (bytes : List ℕ) (start n : ℕ) → cons_option (slice_get bytes start) (take n (drop (suc start) bytes)) ≡ take (suc n) (drop start bytes)
-first_taken [] zero n = grind (arith, common_steps)
-first_taken [] (suc start) n = grind (arith, common_steps)
-first_taken (b ∷ bytes) zero n = refl
-first_taken (b ∷ bytes) (suc start) n = first_taken bytes start n
-
 run_of_bytes : (bytes : List ℕ) (start n : ℕ) → bytes_at_places bytes (range_with_len start n) ≡ take n (drop start bytes)
 run_of_bytes bytes start zero = refl
 run_of_bytes bytes start (suc n) =
     let next : start + 1 ≡ suc start = omega arith in
-    ap (cons_option (slice_get bytes start)) (run_of_bytes bytes (start + 1) n ∙ ap (λ (k : ℕ). take n (drop k bytes)) next) ∙ first_taken bytes start n
+    ap (cons_option (slice_get bytes start)) (run_of_bytes bytes (start + 1) n ∙ ap (λ (k : ℕ). take n (drop k bytes)) next) ∙ first_then_taken bytes start n
 
 pub bytes_of_ranges : (bytes : List ℕ) (ranges : List (Range ℕ)) → flat_map (λ range. bytes_in bytes range) ranges ≡ bytes_at_places bytes (flat_map bytes_of ranges)
 bytes_of_ranges bytes [] = refl
@@ -56,17 +49,6 @@ ranges_content d start joined view bytes placed few stands =
 
 -- ---- inside
 
-run_inside : (room start n : ℕ) → start + n ≤ room → All (λ place. place < room) (range_with_len start n)
-run_inside room start n fits = λ k d below.
-    let within : k < n = omega (arith, below, length-range_with_len start n) in
-    omega (arith, within, fits, get_or-range_with_len start n k d within)
-
-items_inside : (room size : ℕ) (starts : List ℕ) → All (λ start. start + size ≤ room) starts → All (λ place. place < room) (flat_map (λ place. range_with_len (nat_abs place) size) (map (λ x. pos x) starts))
-items_inside room size [] all = All-nil (λ place. place < room)
-items_inside room size (s ∷ starts) all =
-    All-append (λ place. place < room) (range_with_len s size) (flat_map (λ place. range_with_len (nat_abs place) size) (map (λ x. pos x) starts))
-    (run_inside room s size (All-head (λ start. start + size ≤ room) s starts all)) (items_inside room size starts (All-tail (λ start. start + size ≤ room) s starts all))
-
 -- a range with bytes ends inside if each of its bytes lies inside
 range_ends : (room size : ℕ) (p : ℤ) → 0 < size → All (λ place. place < room) (bytes_of (range_at size p)) → nat_abs p + size ≤ room
 range_ends room size p some all =
@@ -75,18 +57,12 @@ range_ends room size p some all =
     let within : size - 1 < length (range_with_len (nat_abs p) n) = omega (arith, last, length-range_with_len (nat_abs p) n) in
     omega (arith, some, all (size - 1) 0 within, get_or-range_with_len (nat_abs p) n (size - 1) 0 last)
 
-all_left : (P : ℕ → Type 0) (xs ys : List ℕ) → All P (xs ++ ys) → All P xs
-all_left P xs ys all = All-from_recursion P xs (ByRec-left P xs ys (recursion_from_All P (xs ++ ys) all))
-
-all_right : (P : ℕ → Type 0) (xs ys : List ℕ) → All P (xs ++ ys) → All P ys
-all_right P xs ys all = All-from_recursion P ys (ByRec-right P xs ys (recursion_from_All P (xs ++ ys) all))
-
 ends_inside : (room size : ℕ) (ps : List ℤ) → 0 < size → All (λ place. place < room) (flat_map bytes_of (map (range_at size) ps)) → All (λ (range : Range ℕ). range.end ≤ room) (map (range_at size) ps)
 ends_inside room size [] some all = All-nil (λ (range : Range ℕ). range.end ≤ room)
 ends_inside room size (p ∷ ps) some all =
     All-cons (λ (range : Range ℕ). range.end ≤ room) (range_at size p) (map (range_at size) ps)
-    (range_ends room size p some (all_left (λ place. place < room) (bytes_of (range_at size p)) (flat_map bytes_of (map (range_at size) ps)) all))
-    (ends_inside room size ps some (all_right (λ place. place < room) (bytes_of (range_at size p)) (flat_map bytes_of (map (range_at size) ps)) all))
+    (range_ends room size p some (numbers_left (λ place. place < room) (bytes_of (range_at size p)) (flat_map bytes_of (map (range_at size) ps)) all))
+    (ends_inside room size ps some (numbers_right (λ place. place < room) (bytes_of (range_at size p)) (flat_map bytes_of (map (range_at size) ps)) all))
 
 by_items : (n room size : ℕ) (ps : List ℤ) → (0 < n → 0 < size) → All (λ place. place < room) (flat_map bytes_of (cond (eqb n 0) [] (map (range_at size) ps)))
     → All (λ (range : Range ℕ). range.end ≤ room) (cond (eqb n 0) [] (map (range_at size) ps))

@@ -2,13 +2,14 @@
 use Rattle.std.proofs.Common.{◌≡◌, ℕ, zero, suc, ◌+◌, ◌-◌, ◌*◌, ◌^◌, ◌<◌, ◌≤◌, ℤ, pos, ◌+ℤ◌, ◌-ℤ◌, ◌*ℤ◌, ◌≤ℤ◌, true, false, List, [], ◌∷◌, length, get_or, set, replicate, take, drop, drop-cons, drop_of_length-le, refl, ap, ap₂, sym, ◌∙◌, subst, arith, Some, slice_get, SFits, w64, add-one, zero-mul}
 use Rattle.std.proofs.lemmas.Int.{ints}
 use Rattle.std.specs.List.{AllByRecursion}
+use Rattle.pybuf_lemmas.proofs.Integers.{next_multiple, zeroth_place}
+use Rattle.pybuf_desc.specs.Facts.{length-places}
 use Rattle.pybuf_desc.specs.Layouts.{product}
 use Rattle.pybuf_desc.specs.Descriptor.{shape_of}
 use Rattle.pybuf_desc.specs.Places.{places}
 use Rattle.pybuf_desc.specs.Positions.{AreIndices, offset_of, number_of_item}
 use Rattle.pybuf_desc.specs.Valid.{IsInside}
 use Rattle.pybuf_desc.specs.Segments.{HasPlaces, AreWithin, IsRow, start_from, rows_left}
-use Rattle.pybuf_desc.proofs.Steps.{length-places, next_multiple, zeroth_place}
 use Rattle.pybuf_desc.proofs.Indices.{place_of_item, number_below}
 use Rattle.pybuf_desc.proofs.Moves.{dim_at}
 

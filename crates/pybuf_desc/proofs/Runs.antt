@@ -2,11 +2,12 @@
 use Rattle.std.proofs.Common.{◌≡◌, ℕ, zero, suc, ◌+◌, ◌*◌, ◌<◌, ◌≤◌, ℤ, pos, ◌+ℤ◌, List, [], ◌∷◌, ◌++◌, length, get_or, map, refl, ap, ap₂, sym, ◌∙◌, arith, zero-mul, mul-pos, append-nil}
 use Rattle.std.proofs.lemmas.Int.{ints}
 use Rattle.std.specs.List.{range_with_len}
+use Rattle.pybuf_desc.specs.Facts.{length-places}
 use Rattle.pybuf_desc.specs.Layouts.{product}
 use Rattle.pybuf_desc.specs.Descriptor.{shape_of}
 use Rattle.pybuf_desc.specs.Places.{places}
 use Rattle.pybuf_desc.specs.RowMajor.{IsContiguous, AreRowMajorStrides}
-use Rattle.pybuf_desc.proofs.Steps.{blocks_apart, places-cons, length-places}
+use Rattle.pybuf_desc.proofs.Steps.{blocks_apart, places-cons}
 use Rattle.pybuf_desc.proofs.Products.{AreNonzero, product-pos}
 
 -- `n` places from `p` on, `size` apart

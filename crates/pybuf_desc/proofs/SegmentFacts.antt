@@ -6,14 +6,15 @@ use Rattle.std.proofs.lemmas.List.{length-take-le}
 use Rattle.std.proofs.lemmas.List.Elements.{recursion_from_All}
 use Rattle.std.specs.List.{AllByRecursion, range_with_len}
 use Rattle.std.specs.declared.ops.Range.{Range}
+use Rattle.pybuf_lemmas.proofs.Numbers.{range_of_sum}
+use Rattle.pybuf_lemmas.proofs.Recursion.{left_by_recursion, right_by_recursion}
+use Rattle.pybuf_desc.specs.Facts.{length-places}
 use Rattle.pybuf_desc.specs.Layouts.{product}
 use Rattle.pybuf_desc.specs.Descriptor.{Descriptor, shape_of}
 use Rattle.pybuf_desc.specs.Places.{places}
 use Rattle.pybuf_desc.specs.Valid.{IsInside, IsPlaced}
 use Rattle.pybuf_desc.specs.Tails.{tail_of}
 use Rattle.pybuf_desc.specs.Segments.{line, range_at, HasPlaces, AreRows, row_places, ranges_of, joined_dims, outer_dims, bytes_of, item_bytes}
-use Rattle.pybuf_desc.proofs.Steps.{length-places}
-use Rattle.pybuf_desc.proofs.Inside.{ByRec-left, ByRec-right}
 use Rattle.pybuf_desc.proofs.Products.{AreNonzero, product-pos}
 use Rattle.pybuf_desc.proofs.Track.{entries_fit}
 use Rattle.pybuf_desc.proofs.Strides.{bytes_fit, size_below, some_entries, All-from_AreNonzero}
@@ -34,7 +35,7 @@ row_starts size n t [] h all = tt
 row_starts size zero t (p ∷ ps) h all = absurd (omega arith)
 row_starts size (suc n) t (p ∷ ps) h all = (
   (let i = all.0 in let low = i.low in let high = i.high in record { low = low; high = omega (arith, ints, high) }),
-  row_starts size (suc n) t ps h (ByRec-right (IsInside size top) (line p t (suc n)) (flat_map (λ q. line q t (suc n)) ps) all),
+  row_starts size (suc n) t ps h (right_by_recursion (IsInside size top) (line p t (suc n)) (flat_map (λ q. line q t (suc n)) ps) all),
 )
 
 -- a row without gaps lies inside as one piece
@@ -47,14 +48,14 @@ rows_whole : (size n : ℕ) (ps : List ℤ) → 0 < n → AllByRecursion (IsInsi
 rows_whole size zero ps h all = absurd (omega arith)
 rows_whole size (suc n) [] h all = tt
 rows_whole size (suc n) (p ∷ ps) h all = (
-  row_whole size n p (ByRec-left (IsInside size top) (line p (pos size) (suc n)) (flat_map (λ q. line q (pos size) (suc n)) ps) all),
-  rows_whole size (suc n) ps h (ByRec-right (IsInside size top) (line p (pos size) (suc n)) (flat_map (λ q. line q (pos size) (suc n)) ps) all),
+  row_whole size n p (left_by_recursion (IsInside size top) (line p (pos size) (suc n)) (flat_map (λ q. line q (pos size) (suc n)) ps) all),
+  rows_whole size (suc n) ps h (right_by_recursion (IsInside size top) (line p (pos size) (suc n)) (flat_map (λ q. line q (pos size) (suc n)) ps) all),
 )
 
 -- ---- dimensions from which the last ones are split off
 
 split_all : {X : Type 0} (P : X → Type 0) (xs ys : List X) → AllByRecursion P (xs ++ ys) → AllByRecursion P xs × AllByRecursion P ys
-split_all P xs ys all = (ByRec-left P xs ys all, ByRec-right P xs ys all)
+split_all P xs ys all = (left_by_recursion P xs ys all, right_by_recursion P xs ys all)
 
 pub both : (dims : List (ℕ × ℤ × ℤ)) → AreNonzero dims → AllByRecursion (λ (dim : ℕ × ℤ × ℤ). dim.0 < 2 ^ 63) dims → AllByRecursion (λ dim. (0 < dim.0) × (dim.0 < 2 ^ 63)) dims
 both [] h g = tt
@@ -194,17 +195,11 @@ asked (suc n) d start joined asked_for some same = ap (ranges_of d start) (same 
 bytes_at : (size : ℕ) (p : ℤ) → bytes_of (range_at size p) ≡ range_with_len (nat_abs p) size
 bytes_at size p = ap (λ n. range_with_len (nat_abs p) n) (let e : nat_abs p + size - nat_abs p ≡ size = omega arith in e)
 
-range-add : (a m n : ℕ) → range_with_len a (m + n) ≡ range_with_len a m ++ range_with_len (a + m) n
-range-add a zero n = ap₂ (λ b k. range_with_len b k) (let e : a ≡ a + 0 = omega arith in e) (let e : zero + n ≡ n = omega arith in e)
-range-add a (suc m) n =
-    ap (λ k. range_with_len a k) (let e : suc m + n ≡ suc (m + n) = omega arith in e)
-    ∙ ap (λ (xs : List ℕ). a ∷ xs) (range-add (a + 1) m n ∙ ap (λ b. range_with_len (a + 1) m ++ range_with_len b n) (let e : a + 1 + m ≡ a + suc m = omega arith in e))
-
 row_bytes : (size n a : ℕ) → range_with_len a (n * size) ≡ flat_map (λ p. range_with_len (nat_abs p) size) (line (pos a) (pos size) n)
 row_bytes size zero a = ap (λ k. range_with_len a k) (let e : zero * size ≡ 0 = omega arith in e)
 row_bytes size (suc n) a =
     ap (λ k. range_with_len a k) (let e : suc n * size ≡ size + n * size = omega arith in e)
-    ∙ range-add a size (n * size) ∙ ap (λ (xs : List ℕ). range_with_len a size ++ xs) (row_bytes size n (a + size))
+    ∙ range_of_sum a size (n * size) ∙ ap (λ (xs : List ℕ). range_with_len a size ++ xs) (row_bytes size n (a + size))
 
 row_bytes_from : (size n : ℕ) (p : ℤ) → pos 0 ≤ℤ p → range_with_len (nat_abs p) (n * size) ≡ flat_map (λ q. range_with_len (nat_abs q) size) (line p (pos size) n)
 row_bytes_from size n (pos a) h = row_bytes size n a

@@ -5,6 +5,8 @@ use Rattle.std.specs.Prelude.{All}
 use Rattle.std.specs.List.{AllByRecursion}
 use Rattle.std.proofs.lemmas.Int.{ints}
 use Rattle.std.proofs.lemmas.List.Elements.{All-nil, All-cons, All-head, All-tail, All-from_recursion}
+use Rattle.pybuf_lemmas.proofs.Numbers.{positive_is_nonzero}
+use Rattle.pybuf_desc.specs.Facts.{positive_product, length-places}
 use Rattle.pybuf_desc.specs.Layouts.{Layout, product}
 use Rattle.pybuf_desc.specs.Strides.{row_major_strides}
 use Rattle.pybuf_desc.specs.ShapedCasts.{cast_to}
@@ -12,7 +14,6 @@ use Rattle.pybuf_desc.specs.Descriptor.{Descriptor, shape_of, strides_of}
 use Rattle.pybuf_desc.specs.Places.{places, Stands}
 use Rattle.pybuf_desc.specs.Valid.{IsInside, IsValid, IsPlaceable}
 use Rattle.pybuf_desc.specs.RowMajor.{AreRowMajorStrides, row_major_dims, shaped_cast}
-use Rattle.pybuf_desc.proofs.Steps.{length-places}
 use Rattle.pybuf_desc.proofs.Products.{AreNonzero-from_All, product-extent}
 use Rattle.pybuf_desc.proofs.Strides.{some_entries}
 use Rattle.pybuf_desc.proofs.Runs.{run, map-run-0, first-places, places_from_strides}
@@ -45,19 +46,11 @@ some_dims size [] some = All-nil (λ (dim : ℕ × ℤ × ℤ). 0 < dim.0)
 some_dims size (n ∷ shape) some =
     All-cons (λ (dim : ℕ × ℤ × ℤ). 0 < dim.0) (n, pos (size * product shape), pos 0) (row_major_dims size shape) (All-head (λ m. 0 < m) n shape some) (some_dims size shape (All-tail (λ m. 0 < m) n shape some))
 
-pub some_product : (shape : List ℕ) → All (λ n. 0 < n) shape → 0 < product shape
-some_product [] some = omega arith
-some_product (n ∷ shape) some = mul-pos (All-head (λ m. 0 < m) n shape some) (some_product shape (All-tail (λ m. 0 < m) n shape some))
-
-pub pos_some : (n : ℕ) → 0 < n → pos n ≢ pos 0
-pos_some zero h e = omega arith
-pos_some (suc n) h e = cc
-
 some_strides : (size : ℕ) (shape : List ℕ) → 0 < size → All (λ n. 0 < n) shape → All (λ (dim : ℕ × ℤ × ℤ). dim.1 ≢ pos 0) (row_major_dims size shape)
 some_strides size [] sized some = All-nil (λ (dim : ℕ × ℤ × ℤ). dim.1 ≢ pos 0)
 some_strides size (n ∷ shape) sized some =
     let later = All-tail (λ m. 0 < m) n shape some in
-    All-cons (λ (dim : ℕ × ℤ × ℤ). dim.1 ≢ pos 0) (n, pos (size * product shape), pos 0) (row_major_dims size shape) (pos_some (size * product shape) (mul-pos sized (some_product shape later))) (some_strides size shape sized later)
+    All-cons (λ (dim : ℕ × ℤ × ℤ). dim.1 ≢ pos 0) (n, pos (size * product shape), pos 0) (row_major_dims size shape) (positive_is_nonzero (size * product shape) (mul-pos sized (positive_product shape later))) (some_strides size shape sized later)
 
 pub no_suboffsets : (size : ℕ) (shape : List ℕ) → All (λ (dim : ℕ × ℤ × ℤ). dim.2 ≡ pos 0) (row_major_dims size shape)
 no_suboffsets size [] = All-nil (λ (dim : ℕ × ℤ × ℤ). dim.2 ≡ pos 0)
@@ -92,7 +85,7 @@ pub valid_shaped : (d : Descriptor) (format : List ℕ) (size : ℕ) (shape : Li
 valid_shaped d format size shape can gapless cast start room valid =
     let dims = row_major_dims size shape in
     let some = some_dims size shape cast.some in
-    let bytes : 0 < d.len = subst (λ (n : ℕ). 0 < n) cast.whole (mul-pos cast.sized (some_product shape cast.some)) in
+    let bytes : 0 < d.len = subst (λ (n : ℕ). 0 < n) cast.whole (mul-pos cast.sized (positive_product shape cast.some)) in
     let end : start + d.len ≤ room = bytes_inside d start room gapless valid bytes in
     let count : size * product (shape_of dims) ≡ d.len = ap (λ (ns : List ℕ). size * product ns) (shape-row_major size shape) ∙ cast.whole in
     let total : product shape * size ≡ d.len = mul_comm (product shape) size ∙ cast.whole in

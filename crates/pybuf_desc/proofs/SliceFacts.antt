@@ -1,24 +1,23 @@
 -- The slice of a descriptor stands for the slice of its view.
-use Rattle.std.proofs.Common.{◌≡◌, ◌≢◌, ℕ, zero, suc, ◌+◌, ◌*◌, ◌/◌, ◌^◌, ◌<◌, ◌≤◌, min, ℤ, pos, negsuc, ◌+ℤ◌, ◌*ℤ◌, List, [], ◌∷◌, ◌++◌, length, take, drop, map, refl, ap, ap₂, sym, ◌∙◌, arith, SFits, w64, flat_map, mul-div_cancel, drop-drop, drop_at, take_at, lit≤, lit<, mul_comm}
+use Rattle.std.proofs.Common.{◌≡◌, ℕ, zero, suc, ◌+◌, ◌*◌, ◌/◌, ◌<◌, ◌≤◌, ℤ, pos, ◌+ℤ◌, ◌*ℤ◌, List, [], ◌∷◌, ◌++◌, length, take, drop, map, refl, ap, ap₂, sym, ◌∙◌, arith, SFits, w64, flat_map, mul-div_cancel, drop-drop, drop_at, take_at, lit≤, lit<, mul_comm}
 use Rattle.std.proofs.lemmas.Int.{ints}
 use Rattle.std.proofs.Math.IntN.{*ℤ_comm}
+use Rattle.pybuf_lemmas.proofs.Integers.{sum_associates, zeroth_place, successor_times, sum_times}
+use Rattle.pybuf_lemmas.proofs.Lists.{Walks}
+use Rattle.pybuf_index.specs.Facts.{nearest_word_fits}
+use Rattle.pybuf_desc.specs.Facts.{length-places}
 use Rattle.pybuf_index.specs.Parts.{nearest_word}
 use Rattle.pybuf_desc.specs.Layouts.{Layout, product}
 use Rattle.pybuf_desc.specs.Descriptor.{Descriptor, shape_of, strides_of}
 use Rattle.pybuf_desc.specs.Places.{places, Stands}
 use Rattle.pybuf_desc.specs.Slices.{first_entry, first_stride, block_at, slice_at}
-use Rattle.pybuf_desc.proofs.Steps.{blocks_apart, places-cons, length-places, zeroth_place}
-use Rattle.pybuf_desc.proofs.Track.{next_multiple'}
-use Rattle.pybuf_desc.proofs.Cuts.{times_sum, Walks}
+use Rattle.pybuf_desc.proofs.Steps.{blocks_apart, places-cons}
 
 -- ---- the blocks at the picks, put down one after the other
 
-plus_assoc : (a b c : ℤ) → a +ℤ b +ℤ c ≡ a +ℤ (b +ℤ c)
-plus_assoc a b c = omega (arith, ints)
-
 next_pick : (p t step before x : ℤ) → x ≡ before +ℤ step → p +ℤ (before +ℤ step) *ℤ t +ℤ t *ℤ step ≡ p +ℤ (x +ℤ step) *ℤ t
 next_pick p t step before x e =
-    ap₂ (λ y s. p +ℤ y *ℤ t +ℤ s) (sym e) (*ℤ_comm t step) ∙ plus_assoc p (x *ℤ t) (step *ℤ t) ∙ ap (λ q. p +ℤ q) (sym (times_sum x step t))
+    ap₂ (λ y s. p +ℤ y *ℤ t +ℤ s) (sym e) (*ℤ_comm t step) ∙ sum_associates p (x *ℤ t) (step *ℤ t) ∙ ap (λ q. p +ℤ q) (sym (sum_times x step t))
 
 pub blocks_at_picks : (block : ℤ → List ℤ) (n : ℕ) (step before p t : ℤ) (picks : List ℕ) → Walks n step before picks
     → blocks_apart block (length picks) (p +ℤ (before +ℤ step) *ℤ t) (t *ℤ step) ≡ flat_map (λ i. block (p +ℤ pos i *ℤ t)) picks
@@ -34,17 +33,6 @@ blocks_one block zero p t u h = refl
 blocks_one block (suc zero) p t u h = refl
 blocks_one block (suc (suc n)) p t u h = absurd (omega arith)
 
--- ---- a stride that two items show fits `isize`
-
-pub clamped_fits : (z : ℤ) → SFits w64 z → nearest_word z ≡ z
-clamped_fits (pos n) f = let h : n < 2 ^ 63 = f.sfits in ap (λ (k : ℕ). pos k) (let e : min n 9223372036854775807 ≡ n = omega arith in e)
-clamped_fits (negsuc n) f = let h : n < 2 ^ 63 = f.sfits in ap (λ (k : ℕ). negsuc k) (let e : min n 9223372036854775807 ≡ n = omega arith in e)
-
-pub clamped_nonzero : (z : ℤ) → z ≢ pos 0 → nearest_word z ≢ pos 0
-clamped_nonzero (pos zero) h e = h refl
-clamped_nonzero (pos (suc n)) h e = let z : min (suc n) 9223372036854775807 ≡ 0 = cc in omega arith
-clamped_nonzero (negsuc n) h e = cc
-
 -- ---- block i of the places
 
 block_of_blocks : (block : ℤ → List ℤ) (size : ℕ) → ((q : ℤ) → length (block q) ≡ size) → (n i : ℕ) (p t : ℤ) → i < n → take size (drop (i * size) (blocks_apart block n p t)) ≡ block (p +ℤ pos i *ℤ t)
@@ -56,7 +44,7 @@ block_of_blocks block size each (suc n) (suc i) p t h =
     ap (λ k. take size (drop k (blocks_apart block (suc n) p t))) (let e : suc i * size ≡ size + i * size = omega arith in e)
     ∙ ap (take size) (sym (drop-drop (i * size) size (blocks_apart block (suc n) p t)) ∙ ap (drop (i * size)) (drop_at (block p) (blocks_apart block n (p +ℤ t) t) size (each p)))
     ∙ block_of_blocks block size each n i (p +ℤ t) t (omega arith)
-    ∙ ap block (let e : p +ℤ t +ℤ pos i *ℤ t ≡ p +ℤ pos (suc i) *ℤ t = omega (arith, ints, next_multiple' i t) in e)
+    ∙ ap block (let e : p +ℤ t +ℤ pos i *ℤ t ≡ p +ℤ pos (suc i) *ℤ t = omega (arith, ints, successor_times i t) in e)
 
 take-map : (n : ℕ) (xs : List ℕ) → take n (map pos xs) ≡ map pos (take n xs)
 take-map zero xs = refl
@@ -143,7 +131,7 @@ stands_cut d dims dim start len step picks next u view same f cut stands =
       format = stands.format;
       itemsize = stands.itemsize;
       shape = ap (λ (ns : List ℕ). length picks ∷ drop 1 ns) (sym shape);
-      strides = ap₂ (λ (s : ℤ) (ss : List ℤ). nearest_word (first_stride ss *ℤ s) ∷ drop 1 ss) (sym (clamped_fits step f)) (sym strides);
+      strides = ap₂ (λ (s : ℤ) (ss : List ℤ). nearest_word (first_stride ss *ℤ s) ∷ drop 1 ss) (sym (nearest_word_fits step f)) (sym strides);
       readonly = stands.readonly;
       starts = places_cut dims dim start step picks next (nearest_word (dim.1 *ℤ step)) u cut
           ∙ starts_cut dims dim start step cut.before view.starts picks starts cut.walks

@@ -1,10 +1,12 @@
 -- What `sliced` makes, from what `adjust_indices` says.
-use Rattle.std.proofs.Common.{◌≡◌, ◌≢◌, ℕ, zero, suc, ◌-◌, ◌*◌, ◌^◌, ◌<◌, ◌≤◌, ℤ, pos, negsuc, ◌+ℤ◌, ◌-ℤ◌, ◌*ℤ◌, ◌≤ℤ◌, ◌<ℤ◌, Bool, true, false, cond, nat_abs, List, [], ◌∷◌, length, drop, drop-cons, refl, ap, sym, ◌∙◌, subst, arith, SFits, w64, All, slice_set}
+use Rattle.std.proofs.Common.{◌≡◌, ◌≢◌, ℕ, ◌-◌, ◌*◌, ◌^◌, ◌<◌, ◌≤◌, ℤ, pos, negsuc, ◌+ℤ◌, ◌-ℤ◌, ◌*ℤ◌, ◌≤ℤ◌, ◌<ℤ◌, List, [], ◌∷◌, length, drop, drop-cons, refl, ap, sym, ◌∙◌, subst, arith, SFits, w64, All, slice_set}
 use Rattle.std.proofs.lemmas.Int.{ints}
 use Rattle.std.specs.List.{AllByRecursion}
 use Rattle.std.proofs.lemmas.List.Elements.{recursion_from_All}
+use Rattle.pybuf_lemmas.proofs.Lists.{Walks}
+use Rattle.pybuf_lemmas.proofs.Integers.{product_is_nonzero}
+use Rattle.pybuf_index.specs.Facts.{length-steps, walks_span}
 use Rattle.pybuf_index.specs.Parts.{SliceParts, IsSaturated, picks_of, nearest_word}
-use Rattle.pybuf_index.specs.Picks.{steps_to, comes_before}
 use Rattle.pybuf_index.specs.Runs.{picks_in_span}
 use Rattle.pybuf_desc.specs.Layouts.{Layout, product}
 use Rattle.pybuf_desc.specs.Descriptor.{Descriptor, shape_of, strides_of}
@@ -14,23 +16,15 @@ use Rattle.pybuf_desc.specs.Slices.{first_entry, first_stride, slice_at, slice_o
 use Rattle.pybuf_desc.proofs.Moves.{dim_at}
 use Rattle.pybuf_desc.proofs.Products.{AreNonzero, AreNonzero-from_All}
 use Rattle.pybuf_desc.proofs.Track.{here, inside_entry, difference_fits, entries_fit}
-use Rattle.pybuf_desc.proofs.Cuts.{Walks, span_first, walks_span}
+use Rattle.pybuf_desc.proofs.Cuts.{span_first}
 use Rattle.pybuf_desc.proofs.SliceFacts.{IsCut, cut_of, stands_cut}
-use Rattle.pybuf_desc.proofs.SliceValidity.{valid_cut, stride_shown, product_moves}
+use Rattle.pybuf_desc.proofs.SliceValidity.{valid_cut, stride_shown}
 
 -- the dimensions are the first and the others
 pub dims_are : (d : Descriptor) → 0 < length d.dims → d.dims ≡ dim_at d.dims 0 ∷ drop 1 d.dims
 dims_are d h = drop-cons d.dims 0 (0, pos 0, pos 0) h
 
 -- ---- how many indices a span has at most
-
-length-if : (b : Bool) (x : ℕ) (xs : List ℕ) (most : ℕ) → length xs ≤ most → length (cond b (x ∷ xs) []) ≤ suc most
-length-if true x xs most h = omega arith
-length-if false x xs most h = omega arith
-
-length-steps : (most : ℕ) (index stop step : ℤ) → length (steps_to most index stop step) ≤ most
-length-steps zero index stop step = omega arith
-length-steps (suc most) index stop step = length-if (comes_before index stop step) (nat_abs index) (steps_to most (index +ℤ step) stop step) most (length-steps most (index +ℤ step) stop step)
 
 pub length-span : (low high : ℕ) (step : ℤ) → length (picks_in_span low high step) ≤ high - low
 unfolding picks_in_span
@@ -155,7 +149,7 @@ made_valid d start parts low high count next len c e bytes room valid =
     let moves : dim.1 ≢ pos 0 = valid.strides 0 (0, pos 0, pos 0) c.some in
     subst (λ n. IsValid (made_of d len n (nearest_word (dim.1 *ℤ parts.step))) next room) (sym c.count_is)
     (subst (λ x. IsValid x next room) (sym (made_is d len (length picks) (nearest_word (dim.1 *ℤ parts.step)) c.some))
-    (valid_cut d (drop 1 d.dims) dim start room len parts.step picks next (dims_are d c.some) c.saturated.moves (product_moves dim.1 parts.step moves c.saturated.moves)
+    (valid_cut d (drop 1 d.dims) dim start room len parts.step picks next (dims_are d c.some) c.saturated.moves (product_is_nonzero dim.1 parts.step moves c.saturated.moves)
     (cut_made d start parts low high count next c e)
     (entry_bytes d.itemsize (length picks) (d.itemsize * (length picks * rest)) rest refl ∙ sym (len_is ∙ ap (λ n. n * (d.itemsize * rest)) c.count_is)) valid))
 

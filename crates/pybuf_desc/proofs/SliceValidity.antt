@@ -1,9 +1,12 @@
 -- A slice of a valid descriptor is valid, and its strides are exact if two items show them.
-use Rattle.std.proofs.Common.{◌≡◌, ◌≢◌, ℕ, zero, suc, ◌*◌, ◌^◌, ◌<◌, ◌≤◌, ℤ, pos, negsuc, ◌+ℤ◌, ◌*ℤ◌, ◌≤ℤ◌, List, [], ◌∷◌, length, drop, refl, ap, sym, ◌∙◌, subst, arith, SFits, w64, All, flat_map, mul-le-mul_right, mul-le-mul_left, le_refl, le-mul_of_pos_right, lt_of_le_of_lt, zero-lt-suc, mul-pos, neg_ℤ}
+use Rattle.std.proofs.Common.{◌≡◌, ◌≢◌, ℕ, zero, suc, ◌*◌, ◌^◌, ◌<◌, ◌≤◌, ℤ, pos, ◌+ℤ◌, ◌*ℤ◌, ◌≤ℤ◌, List, [], ◌∷◌, length, drop, ap, sym, ◌∙◌, subst, arith, SFits, w64, All, flat_map, mul-le-mul_right, mul-le-mul_left, le_refl, le-mul_of_pos_right, lt_of_le_of_lt, zero-lt-suc}
 use Rattle.std.proofs.Math.IntN.{*ℤ_comm}
 use Rattle.std.proofs.lemmas.Int.{ints}
 use Rattle.std.specs.List.{AllByRecursion}
 use Rattle.std.proofs.lemmas.List.Elements.{All-from_recursion, recursion_from_All, All-head, All-tail, All-cons}
+use Rattle.pybuf_lemmas.proofs.Integers.{sum_times}
+use Rattle.pybuf_lemmas.proofs.Lists.{Walks}
+use Rattle.pybuf_index.specs.Facts.{nearest_word_fits, nearest_word_nonzero}
 use Rattle.pybuf_index.specs.Parts.{nearest_word}
 use Rattle.pybuf_desc.specs.Layouts.{product}
 use Rattle.pybuf_desc.specs.Descriptor.{Descriptor, shape_of}
@@ -12,8 +15,7 @@ use Rattle.pybuf_desc.specs.Valid.{IsInside, IsValid}
 use Rattle.pybuf_desc.proofs.Inside.{ByRec-append}
 use Rattle.pybuf_desc.proofs.Track.{inside_entry, here, step}
 use Rattle.pybuf_desc.proofs.Products.{AreNonzero, extent_of}
-use Rattle.pybuf_desc.proofs.Cuts.{times_sum, Walks}
-use Rattle.pybuf_desc.proofs.SliceFacts.{IsCut, cut_of, places_cut, clamped_fits, clamped_nonzero}
+use Rattle.pybuf_desc.proofs.SliceFacts.{IsCut, cut_of, places_cut}
 
 inside_picks : (size room n : ℕ) (dims : List (ℕ × ℤ × ℤ)) (dim : ℕ × ℤ × ℤ) (p step before : ℤ) (picks : List ℕ) → Walks dim.0 step before picks
     → AllByRecursion (IsInside size room) (places (dim ∷ dims) p) → AllByRecursion (IsInside size room) (flat_map (λ i. places dims (p +ℤ pos i *ℤ dim.1)) picks)
@@ -42,7 +44,7 @@ valid_cut d dims dim start room len step picks next same moves strides_move cut 
       some_size = valid.some_size;
       size_fits = valid.size_fits;
       few_dimensions = subst (λ (ds : List (ℕ × ℤ × ℤ)). length ds ≤ 64) same valid.few_dimensions;
-      strides = All-cons (λ x. x.1 ≢ pos 0) (length picks, nearest_word (dim.1 *ℤ step), dim.2) dims (clamped_nonzero (dim.1 *ℤ step) strides_move) (All-tail (λ x. x.1 ≢ pos 0) dim dims strides);
+      strides = All-cons (λ x. x.1 ≢ pos 0) (length picks, nearest_word (dim.1 *ℤ step), dim.2) dims (nearest_word_nonzero (dim.1 *ℤ step) strides_move) (All-tail (λ x. x.1 ≢ pos 0) dim dims strides);
       suboffsets = All-cons (λ x. x.2 ≡ pos 0) (length picks, nearest_word (dim.1 *ℤ step), dim.2) dims (All-head (λ x. x.2 ≡ pos 0) dim dims suboffsets) (All-tail (λ x. x.2 ≡ pos 0) dim dims suboffsets);
       later_entries = subst (λ (ds : List (ℕ × ℤ × ℤ)). All (λ x. 0 < x.0) (drop 1 ds)) same valid.later_entries;
       extent_fits = lt_of_le_of_lt (mul-le-mul_left d.itemsize (extent_less (length picks) dim.0 (nearest_word (dim.1 *ℤ step)) dim.2 dim.1 dim.2 dims cut.few)) (subst (λ (ds : List (ℕ × ℤ × ℤ)). d.itemsize * extent_of ds < 2 ^ 63) same valid.extent_fits);
@@ -51,26 +53,6 @@ valid_cut d dims dim start room len step picks next same moves strides_move cut 
           (subst (AllByRecursion (IsInside d.itemsize room)) (sym (places_cut dims dim start step picks next (nearest_word (dim.1 *ℤ step)) dim.2 cut))
           (inside_picks d.itemsize room dim.0 dims dim (pos start) step cut.before picks cut.walks inside));
     }
-
--- a product is 0 only if a factor is
-pos_none : (n : ℕ) → pos n ≡ pos 0 → n ≡ 0
-pos_none n e = cc
-
-neg_none : (n : ℕ) → neg_ℤ (pos n) ≡ pos 0 → n ≡ 0
-neg_none zero e = refl
-neg_none (suc n) e = absurd (cc)
-
-not_none : (a b n : ℕ) → n ≡ suc a * suc b → n ≡ 0 → ⊥
-not_none a b n e z = let more : 0 < suc a * suc b = mul-pos (zero-lt-suc a) (zero-lt-suc b) in omega (arith, more, e, z)
-
-pub product_moves : (t s : ℤ) → t ≢ pos 0 → s ≢ pos 0 → t *ℤ s ≢ pos 0
-product_moves (pos zero) s h g e = h refl
-product_moves (pos (suc a)) (pos zero) h g e = g refl
-product_moves (pos (suc a)) (pos (suc b)) h g e = not_none a b (suc a * suc b) refl (pos_none (suc a * suc b) e)
-product_moves (pos (suc a)) (negsuc b) h g e = not_none a b (suc a * suc b) refl (neg_none (suc a * suc b) e)
-product_moves (negsuc a) (pos zero) h g e = g refl
-product_moves (negsuc a) (pos (suc b)) h g e = not_none a b (suc a * suc b) refl (neg_none (suc a * suc b) e)
-product_moves (negsuc a) (negsuc b) h g e = not_none a b (suc a * suc b) refl (pos_none (suc a * suc b) e)
 
 -- ---- two picks show the stride
 
@@ -83,11 +65,11 @@ two_picks size room dims dim p step x y fits some hx hy e all =
     let a : (pos 0 ≤ℤ (p +ℤ pos x *ℤ dim.1)) × ((p +ℤ pos x *ℤ dim.1) ≤ℤ pos room) = here size room dims (p +ℤ pos x *ℤ dim.1) some (inside_entry size room dim dims p x hx all) in
     let b : (pos 0 ≤ℤ (p +ℤ pos y *ℤ dim.1)) × ((p +ℤ pos y *ℤ dim.1) ≤ℤ pos room) = here size room dims (p +ℤ pos y *ℤ dim.1) some (inside_entry size room dim dims p y hy all) in
     apart p (pos x *ℤ dim.1) (pos y *ℤ dim.1) (dim.1 *ℤ step) room fits a.0 a.1 b.0 b.1
-    (ap (λ z. z *ℤ dim.1) e ∙ times_sum (pos x) step dim.1 ∙ ap (λ z. pos x *ℤ dim.1 +ℤ z) (*ℤ_comm step dim.1))
+    (ap (λ z. z *ℤ dim.1) e ∙ sum_times (pos x) step dim.1 ∙ ap (λ z. pos x *ℤ dim.1 +ℤ z) (*ℤ_comm step dim.1))
 
 pub stride_shown : (size room : ℕ) (dims : List (ℕ × ℤ × ℤ)) (dim : ℕ × ℤ × ℤ) (p step before : ℤ) (picks : List ℕ) → room < 2 ^ 63 → AreNonzero dims → Walks dim.0 step before picks
     → AllByRecursion (IsInside size room) (places (dim ∷ dims) p) → 1 < length picks → nearest_word (dim.1 *ℤ step) ≡ dim.1 *ℤ step
 stride_shown size room dims dim p step before [] fits some w all h = absurd (omega arith)
 stride_shown size room dims dim p step before (x ∷ []) fits some w all h = absurd (omega arith)
 stride_shown size room dims dim p step before (x ∷ y ∷ picks) fits some w all h =
-    clamped_fits (dim.1 *ℤ step) (two_picks size room dims dim p step x y fits some w.0 w.2.0 w.2.1 all)
+    nearest_word_fits (dim.1 *ℤ step) (two_picks size room dims dim p step x y fits some w.0 w.2.0 w.2.1 all)

@@ -1,9 +1,8 @@
 -- The places of a line, by steps that lead up or down.
-use Rattle.std.proofs.Common.{◌≡◌, ℕ, zero, suc, ◌+◌, ◌-◌, ◌*◌, ◌<◌, ◌≤◌, ℤ, pos, negsuc, ◌+ℤ◌, ◌≤ℤ◌, nat_abs, Bool, true, false, [], ◌∷◌, map, refl, ap, ap₂, sym, ◌∙◌, subst, arith}
+use Rattle.std.proofs.Common.{◌≡◌, ℕ, zero, suc, ◌+◌, ◌-◌, ◌*◌, ◌<◌, ◌≤◌, ℤ, pos, negsuc, ◌+ℤ◌, nat_abs, Bool, true, false, [], ◌∷◌, map, refl, ap, ap₂, sym, ◌∙◌, subst, arith}
 use Rattle.std.specs.Int.Signed.{lt_z}
-use Rattle.std.proofs.lemmas.Int.{ints}
-use Rattle.std.proofs.lemmas.Bool.{le-ltb}
 use Rattle.std.specs.List.{range_with_len}
+use Rattle.pybuf_lemmas.proofs.Numbers.{step_below_start, place_a_step_lower, next_lower_place, place_below_start, natural_is_not_below_zero}
 use Rattle.pybuf_desc.specs.Segments.{line, range_at}
 use Rattle.pybuf_desc.specs.SegmentLines.{range_on}
 use Rattle.pybuf_desc.proofs.WalkLemmas.{AllInside}
@@ -15,31 +14,16 @@ rising start step size j (suc count) =
     ap (λ xs. range_on false start step size j ∷ xs)
     (rising start step size (j + 1) count ∙ ap (λ (p : ℕ). map (range_at size) (line (pos p) (pos step) count)) next)
 
--- if a place is still at least 0 after a step down, the step was no longer than the place
-lower : (a n : ℕ) → pos 0 ≤ℤ (pos a +ℤ negsuc n) → suc n ≤ a
-lower a n low = omega (arith, ints, low)
-
-lower_place : (a n : ℕ) → suc n ≤ a → pos a +ℤ negsuc n ≡ pos (a - suc n)
-lower_place a n low = omega (arith, ints, low)
-
-next_lower : (start n j a : ℕ) → a + j * suc n ≡ start → suc n ≤ a → (a - suc n) + (j + 1) * suc n ≡ start
-next_lower start n j a at low =
-    let more : (j + 1) * suc n ≡ j * suc n + suc n = grind arith in
-    omega (arith, at, low, more)
-
-place_below : (start m a : ℕ) → a + m ≡ start → start - m ≡ a
-place_below start m a at = omega (arith, at)
-
 falling : (start n size j a count : ℕ) → a + j * suc n ≡ start → AllInside size (line (pos a) (negsuc n) count)
     → map (range_on true start (suc n) size) (range_with_len j count) ≡ map (range_at size) (line (pos a) (negsuc n) count)
 falling start n size j a zero at all = refl
 falling start n size j a (suc zero) at all =
-    ap (λ (p : ℕ). range_at size (pos p) ∷ []) (place_below start (j * suc n) a at)
+    ap (λ (p : ℕ). range_at size (pos p) ∷ []) (place_below_start start (j * suc n) a at)
 falling start n size j a (suc (suc count)) at all =
-    let low : suc n ≤ a = lower a n all.1.0.low in
-    let next : pos a +ℤ negsuc n ≡ pos (a - suc n) = lower_place a n low in
-    ap₂ (λ (p : ℕ) xs. range_at size (pos p) ∷ xs) (place_below start (j * suc n) a at)
-    (falling start n size (j + 1) (a - suc n) (suc count) (next_lower start n j a at low) (subst (λ (p : ℤ). AllInside size (line p (negsuc n) (suc count))) next all.1)
+    let low : suc n ≤ a = step_below_start a n all.1.0.low in
+    let next : pos a +ℤ negsuc n ≡ pos (a - suc n) = place_a_step_lower a n low in
+    ap₂ (λ (p : ℕ) xs. range_at size (pos p) ∷ xs) (place_below_start start (j * suc n) a at)
+    (falling start n size (j + 1) (a - suc n) (suc count) (next_lower_place start n j a at low) (subst (λ (p : ℤ). AllInside size (line p (negsuc n) (suc count))) next all.1)
     ∙ ap (λ (p : ℤ). map (range_at size) (line p (negsuc n) (suc count))) (sym next))
 
 falling_low : (start n size j a count : ℕ) → a + j * suc n ≡ start → AllInside size (line (pos a) (negsuc n) count) → (k : ℕ) → k < count → (j + k) * suc n ≤ start
@@ -49,20 +33,17 @@ falling_low start n size j a (suc count) at all zero less =
     omega (arith, at, same)
 falling_low start n size j a (suc zero) at all (suc k) less = absurd (omega (arith, less))
 falling_low start n size j a (suc (suc count)) at all (suc k) less =
-    let low : suc n ≤ a = lower a n all.1.0.low in
-    let next : pos a +ℤ negsuc n ≡ pos (a - suc n) = lower_place a n low in
+    let low : suc n ≤ a = step_below_start a n all.1.0.low in
+    let next : pos a +ℤ negsuc n ≡ pos (a - suc n) = place_a_step_lower a n low in
     let same : ((j + 1) + k) * suc n ≡ (j + suc k) * suc n = grind arith in
     let fewer : k < suc count = omega (arith, less) in
-    let rest = falling_low start n size (j + 1) (a - suc n) (suc count) (next_lower start n j a at low) (subst (λ (p : ℤ). AllInside size (line p (negsuc n) (suc count))) next all.1) k fewer in
+    let rest = falling_low start n size (j + 1) (a - suc n) (suc count) (next_lower_place start n j a at low) (subst (λ (p : ℤ). AllInside size (line p (negsuc n) (suc count))) next all.1) k fewer in
     omega (arith, same, rest)
 
 -- a line that goes by steps up or down
 pub record IsByTrack (start : ℕ) (stride : ℤ) (count size step : ℕ) (falls : Bool) : Type 0 where
   pub ranges : map (range_on falls start step size) (range_with_len 0 count) ≡ map (range_at size) (line (pos start) stride count)
   pub low : (k : ℕ) → k < count → falls ≡ true → k * step ≤ start
-
-never_below : (n : ℕ) → lt_z (pos n) (pos 0) ≡ false
-never_below n = le-ltb n 0 (let low : 0 ≤ n = omega arith in low)
 
 not_falling : (start : ℕ) (stride : ℤ) (count size step : ℕ) → map (range_on false start step size) (range_with_len 0 count) ≡ map (range_at size) (line (pos start) stride count) → IsByTrack start stride count size step false
 not_falling start stride count size step ranges = record {
@@ -73,7 +54,7 @@ not_falling start stride count size step ranges = record {
 by_sign : (start : ℕ) (stride : ℤ) (count size : ℕ) → AllInside size (line (pos start) stride count) → IsByTrack start stride count size (nat_abs stride) (lt_z stride (pos 0))
 by_sign start (pos n) count size all =
     let at : start + 0 * n ≡ start = grind arith in
-    subst (λ (b : Bool). IsByTrack start (pos n) count size n b) (sym (never_below n))
+    subst (λ (b : Bool). IsByTrack start (pos n) count size n b) (sym (natural_is_not_below_zero n))
     (not_falling start (pos n) count size n (rising start n size 0 count ∙ ap (λ (p : ℕ). map (range_at size) (line (pos p) (pos n) count)) at))
 by_sign start (negsuc n) count size all =
     let at : start + 0 * suc n ≡ start = grind arith in

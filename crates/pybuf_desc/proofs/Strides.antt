@@ -1,12 +1,12 @@
 -- Row-major strides, from the last dimension to the first.
 use Rattle.std.proofs.Common.{◌≡◌, ℕ, zero, suc, ◌-◌, ◌*◌, ◌^◌, ◌<◌, ◌≤◌, ℤ, pos, List, [], ◌∷◌, length, drop, drop-cons, refl, ap, sym, ◌∙◌, subst, arith, le-mul_of_pos_right, le_refl, mul_assoc, mul_comm, mul-le-mul_left, lt_of_le_of_lt, ◌↔◌, All, mul-zero, zero-mul, pos_of_ne-zero, mul-pos, zero-lt-suc}
 use Rattle.std.proofs.lemmas.List.Elements.{All-nil, All-cons}
+use Rattle.pybuf_desc.specs.Facts.{length-places}
 use Rattle.pybuf_desc.specs.Layouts.{product}
 use Rattle.pybuf_desc.specs.Descriptor.{Descriptor, shape_of}
 use Rattle.pybuf_desc.specs.Places.{places}
 use Rattle.pybuf_desc.specs.Valid.{IsPlaceable}
 use Rattle.pybuf_desc.specs.RowMajor.{IsContiguous, AreRowMajorStrides}
-use Rattle.pybuf_desc.proofs.Steps.{length-places}
 use Rattle.pybuf_desc.proofs.Moves.{dim_at}
 use Rattle.pybuf_desc.proofs.Products.{AreNonzero, AreNonzero-from_All, product-extent}
 use Rattle.pybuf_desc.proofs.Runs.{places_from_strides, strides_from_places, contiguous_from_run, run_from_contiguous}

@@ -4,6 +4,7 @@ use Rattle.std.specs.Ordering.{int_eq}
 use Rattle.std.proofs.lemmas.Bool.{eqb-true}
 use Rattle.std.proofs.lemmas.Bool.Decides.{Decides-int_eq}
 use Rattle.std.proofs.lemmas.List.{drop-drop, drop-map, length-map}
+use Rattle.pybuf_desc.specs.Facts.{as_many}
 use Rattle.pybuf_desc.specs.Layouts.{product}
 use Rattle.pybuf_desc.specs.Strides.{AreRowMajor}
 use Rattle.pybuf_desc.specs.Descriptor.{shape_of, strides_of}
@@ -91,14 +92,11 @@ tails_are_greatest size (n ∷ shape) (stride ∷ strides) e =
 
 -- ---- the tail of dimensions
 
-pub long_shape : (dims : List (ℕ × ℤ × ℤ)) → length (shape_of dims) ≡ length dims
-long_shape dims = length-map dims (λ (dim : ℕ × ℤ × ℤ). dim.0)
-
 long_strides : (dims : List (ℕ × ℤ × ℤ)) → length (strides_of dims) ≡ length dims
 long_strides dims = length-map dims (λ (dim : ℕ × ℤ × ℤ). dim.1)
 
 tail_is : (size : ℕ) (dims : List (ℕ × ℤ × ℤ)) → IsTail size (shape_of dims) (strides_of dims) (tail_of_strides size (shape_of dims) (strides_of dims))
-tail_is size dims = tails_are_greatest size (shape_of dims) (strides_of dims) (long_shape dims ∙ sym (long_strides dims))
+tail_is size dims = tails_are_greatest size (shape_of dims) (strides_of dims) (as_many dims ∙ sym (long_strides dims))
 
 to_lists : (size k : ℕ) (dims : List (ℕ × ℤ × ℤ)) → AreRowMajorStrides size (drop k dims) → ArePacked size (shape_of dims) (strides_of dims) k
 to_lists size k dims h =
@@ -120,11 +118,11 @@ fewer_packed size dims k more h packed =
 pub joined_packed : (size : ℕ) (dims : List (ℕ × ℤ × ℤ)) (joined : ℕ) → joined ≤ tail_of_strides size (shape_of dims) (strides_of dims) → AreRowMajorStrides size (joined_dims joined dims)
 joined_packed size dims joined h =
     let tail = tail_is size dims in
-    fewer_packed size dims (length (shape_of dims) - tail_of_strides size (shape_of dims) (strides_of dims)) (length dims - joined) (omega (arith, h, long_shape dims))
+    fewer_packed size dims (length (shape_of dims) - tail_of_strides size (shape_of dims) (strides_of dims)) (length dims - joined) (omega (arith, h, as_many dims))
     (from_lists size (length (shape_of dims) - tail_of_strides size (shape_of dims) (strides_of dims)) dims tail.packed)
 
 pub tail_few : (size : ℕ) (dims : List (ℕ × ℤ × ℤ)) → tail_of_strides size (shape_of dims) (strides_of dims) ≤ length dims
-tail_few size dims = let few = (tail_is size dims).few in omega (arith, few, long_shape dims)
+tail_few size dims = let few = (tail_is size dims).few in omega (arith, few, as_many dims)
 
 -- no longer tail is packed, where the code stops
 not_more : (size k t : ℕ) (dims : List (ℕ × ℤ × ℤ)) → k ≤ length dims → (0 < k → AreRowMajorStrides size (drop (k - 1) dims) → ⊥)
@@ -132,14 +130,14 @@ not_more : (size k t : ℕ) (dims : List (ℕ × ℤ × ℤ)) → k ≤ length d
 not_more size k t dims h unfit tail true e least = let most : t ≤ length dims - k = grind (arith, e) in omega (arith, least, most)
 not_more size k t dims h unfit tail false e least =
     let more : length dims - k < t = grind (arith, e) in
-    let long = long_shape dims in
+    let long = as_many dims in
     let few : t ≤ length (shape_of dims) = tail.few in
     absurd (unfit (omega (arith, more, few, long)) (fewer_packed size dims (length (shape_of dims) - t) (k - 1) (omega (arith, more, few, long, h)) (from_lists size (length (shape_of dims) - t) dims tail.packed)))
 
 found : (size k t : ℕ) (dims : List (ℕ × ℤ × ℤ)) → k ≤ length dims → AreRowMajorStrides size (drop k dims) → (0 < k → AreRowMajorStrides size (drop (k - 1) dims) → ⊥)
     → IsTail size (shape_of dims) (strides_of dims) t → length dims - k ≡ t
 found size k t dims h packed unfit tail =
-    let long = long_shape dims in
+    let long = as_many dims in
     let few : t ≤ length (shape_of dims) = tail.few in
     let back : k ≡ length (shape_of dims) - (length dims - k) = omega (arith, h, long) in
     let least : length dims - k ≤ t = tail.greatest (length dims - k) (omega (arith, long)) (subst (ArePacked size (shape_of dims) (strides_of dims)) back (to_lists size k dims packed)) in

@@ -1,13 +1,15 @@
 -- A sum of index times stride stays in the room on its way.
-use Rattle.std.proofs.Common.{◌≡◌, ℕ, zero, suc, ◌*◌, ◌^◌, ◌<◌, ◌≤◌, ℤ, pos, negsuc, ◌+ℤ◌, ◌*ℤ◌, ◌≤ℤ◌, List, [], ◌∷◌, refl, sym, subst, arith, SFits, w64, le-mul_of_pos_right, mul-pos, zero-lt-suc}
+use Rattle.std.proofs.Common.{◌≡◌, ℕ, zero, suc, ◌*◌, ◌^◌, ◌<◌, ◌≤◌, ℤ, pos, ◌+ℤ◌, ◌*ℤ◌, ◌≤ℤ◌, List, [], ◌∷◌, refl, sym, subst, arith, SFits, w64, le-mul_of_pos_right, mul-pos, zero-lt-suc}
 use Rattle.std.proofs.lemmas.Int.{ints}
 use Rattle.std.specs.List.{AllByRecursion}
 use Rattle.std.proofs.lemmas.List.Elements.{recursion_from_All}
+use Rattle.pybuf_lemmas.proofs.Integers.{successor_times, zeroth_place}
+use Rattle.pybuf_lemmas.proofs.Recursion.{left_by_recursion, right_by_recursion}
 use Rattle.pybuf_desc.specs.Descriptor.{Descriptor}
 use Rattle.pybuf_desc.specs.Places.{places}
 use Rattle.pybuf_desc.specs.Valid.{IsInside, IsPlaceable}
-use Rattle.pybuf_desc.proofs.Steps.{blocks_apart, places-cons, zeroth_place}
-use Rattle.pybuf_desc.proofs.Inside.{ByRec-left, ByRec-right, Reaches, reach_from_inside, back_reach, forth_reach}
+use Rattle.pybuf_desc.proofs.Steps.{blocks_apart, places-cons}
+use Rattle.pybuf_desc.proofs.Inside.{Reaches, reach_from_inside, back_reach, forth_reach}
 use Rattle.pybuf_desc.proofs.Products.{AreNonzero, extent_of, extent_pos}
 
 pub record Track (dims : List (ℕ × ℤ × ℤ)) (offset : ℤ) : Type 0 where
@@ -26,17 +28,13 @@ here size room dims p some h =
     let r : Reaches size room (back_reach dims) (forth_reach dims) p = reach_from_inside size room dims p some h in
     let low = r.least in let high = r.greatest in (omega (arith, ints), omega (arith, ints))
 
-pub next_multiple' : (i : ℕ) (t : ℤ) → pos (suc i) *ℤ t ≡ pos i *ℤ t +ℤ t
-next_multiple' i (pos n) = omega (arith, ints)
-next_multiple' i (negsuc n) = omega (arith, ints)
-
 inside_block : (P : ℤ → Type 0) (block : ℤ → List ℤ) (n i : ℕ) (p t : ℤ) → i < n → AllByRecursion P (blocks_apart block n p t) → AllByRecursion P (block (p +ℤ pos i *ℤ t))
 inside_block P block zero i p t h all = absurd (omega arith)
 inside_block P block (suc n) zero p t h all =
-    subst (λ q. AllByRecursion P (block q)) (sym (zeroth_place p t)) (ByRec-left P (block p) (blocks_apart block n (p +ℤ t) t) all)
+    subst (λ q. AllByRecursion P (block q)) (sym (zeroth_place p t)) (left_by_recursion P (block p) (blocks_apart block n (p +ℤ t) t) all)
 inside_block P block (suc n) (suc i) p t h all =
-    subst (λ q. AllByRecursion P (block q)) (let e : p +ℤ t +ℤ pos i *ℤ t ≡ p +ℤ pos (suc i) *ℤ t = omega (arith, ints, next_multiple' i t) in e)
-    (inside_block P block n i (p +ℤ t) t (omega arith) (ByRec-right P (block p) (blocks_apart block n (p +ℤ t) t) all))
+    subst (λ q. AllByRecursion P (block q)) (let e : p +ℤ t +ℤ pos i *ℤ t ≡ p +ℤ pos (suc i) *ℤ t = omega (arith, ints, successor_times i t) in e)
+    (inside_block P block n i (p +ℤ t) t (omega arith) (right_by_recursion P (block p) (blocks_apart block n (p +ℤ t) t) all))
 
 pub inside_entry : (size room : ℕ) (dim : ℕ × ℤ × ℤ) (dims : List (ℕ × ℤ × ℤ)) (p : ℤ) (i : ℕ) → i < dim.0 → AllByRecursion (IsInside size room) (places (dim ∷ dims) p) → AllByRecursion (IsInside size room) (places dims (p +ℤ pos i *ℤ dim.1))
 inside_entry size room dim dims p i h all =

@@ -1,21 +1,19 @@
 -- The same items, if their dimensions stand with the last one first.
-use Rattle.std.proofs.Common.{◌≡◌, ◌≢◌, ℕ, zero, suc, ◌+◌, ◌*◌, ◌^◌, ◌<◌, ◌≤◌, ℤ, pos, List, [], ◌∷◌, ◌++◌, length, reverse, map, drop, refl, ap, sym, ◌∙◌, subst, arith}
+use Rattle.std.proofs.Common.{◌≡◌, ◌≢◌, ℕ, ◌+◌, ◌*◌, ◌^◌, ◌<◌, ◌≤◌, ℤ, pos, List, [], ◌∷◌, ◌++◌, length, reverse, drop, refl, ap, sym, ◌∙◌, subst, arith}
 use Rattle.std.specs.Prelude.{All}
 use Rattle.std.specs.List.{AllByRecursion}
-use Rattle.std.proofs.lemmas.List.{map-append, reverse-append, length-reverse}
+use Rattle.std.proofs.lemmas.List.{reverse-append, length-reverse}
 use Rattle.std.proofs.lemmas.List.Elements.{All-from_recursion, recursion_from_All}
+use Rattle.pybuf_lemmas.proofs.Lists.{map_of_reverse, reverse_cons}
+use Rattle.pybuf_lemmas.proofs.Recursion.{dims_after_first}
+use Rattle.pybuf_desc.specs.Facts.{nonzero_is, some_shape}
 use Rattle.pybuf_desc.specs.Layouts.{Layout, product}
 use Rattle.pybuf_desc.specs.Descriptor.{Descriptor, shape_of, strides_of}
 use Rattle.pybuf_desc.specs.Places.{places, Stands}
 use Rattle.pybuf_desc.specs.Valid.{IsInside, IsValid, nonzero_entries}
 use Rattle.pybuf_desc.specs.ColumnOrder.{columns_of}
 use Rattle.pybuf_desc.proofs.ColumnViews.{columns_of_view}
-use Rattle.pybuf_desc.proofs.ColumnWalks.{all_turned, columns_within, places_turned, reverse_cons}
-
-map_turned : {X A : Type 0} (f : X → A) (xs : List X) → map f (reverse xs) ≡ reverse (map f xs)
-map_turned f [] = refl
-map_turned f (x ∷ xs) =
-    ap (map f) (reverse_cons x xs) ∙ map-append f (reverse xs) (x ∷ []) ∙ ap (λ ys. ys ++ f x ∷ []) (map_turned f xs) ∙ sym (reverse_cons (f x) (map f xs))
+use Rattle.pybuf_desc.proofs.ColumnWalks.{all_turned, columns_within, places_turned}
 
 product_append : (xs : List ℕ) (n : ℕ) → product (xs ++ n ∷ []) ≡ n * product xs
 product_append [] n = refl
@@ -28,21 +26,8 @@ product_turned : (xs : List ℕ) → product (reverse xs) ≡ product xs
 product_turned [] = refl
 product_turned (x ∷ xs) = ap product (reverse_cons x xs) ∙ product_append (reverse xs) x ∙ ap (λ (k : ℕ). x * k) (product_turned xs)
 
-nonzero_is : (shape : List ℕ) → AllByRecursion (λ n. 0 < n) shape → nonzero_entries shape ≡ shape
-nonzero_is [] h = refl
-nonzero_is (zero ∷ shape) h = absurd (let low = h.0 in omega (arith, low))
-nonzero_is (suc n ∷ shape) h = ap (λ (ns : List ℕ). suc n ∷ ns) (nonzero_is shape h.1)
-
-some_shape : (dims : List (ℕ × ℤ × ℤ)) → AllByRecursion (λ (dim : ℕ × ℤ × ℤ). 0 < dim.0) dims → AllByRecursion (λ n. 0 < n) (shape_of dims)
-some_shape [] h = tt
-some_shape (dim ∷ dims) h = (h.0, some_shape dims h.1)
-
-drop_first : (P : ℕ × ℤ × ℤ → Type 0) (dims : List (ℕ × ℤ × ℤ)) → AllByRecursion P dims → AllByRecursion P (drop 1 dims)
-drop_first P [] all = tt
-drop_first P (dim ∷ dims) all = all.1
-
 shape_turned : (dims : List (ℕ × ℤ × ℤ)) → shape_of (reverse dims) ≡ reverse (shape_of dims)
-shape_turned dims = map_turned (λ dim. dim.0) dims
+shape_turned dims = map_of_reverse (λ dim. dim.0) dims
 
 extent_turned : (dims : List (ℕ × ℤ × ℤ)) → AllByRecursion (λ (dim : ℕ × ℤ × ℤ). 0 < dim.0) dims → product (nonzero_entries (shape_of (reverse dims))) ≡ product (nonzero_entries (shape_of dims))
 extent_turned dims some =
@@ -62,7 +47,7 @@ valid_turned d start room some valid =
       strides = all_kept (λ dim. dim.1 ≢ pos 0) d.dims valid.strides;
       suboffsets = all_kept (λ dim. dim.2 ≡ pos 0) d.dims valid.suboffsets;
       later_entries = All-from_recursion (λ (dim : ℕ × ℤ × ℤ). 0 < dim.0) (drop 1 (reverse d.dims))
-          (drop_first (λ (dim : ℕ × ℤ × ℤ). 0 < dim.0) (reverse d.dims) (all_turned (λ (dim : ℕ × ℤ × ℤ). 0 < dim.0) d.dims each));
+          (dims_after_first (λ (dim : ℕ × ℤ × ℤ). 0 < dim.0) (reverse d.dims) (all_turned (λ (dim : ℕ × ℤ × ℤ). 0 < dim.0) d.dims each));
       extent_fits = subst (λ (n : ℕ). d.itemsize * n < 2 ^ 63) (sym (extent_turned d.dims each)) valid.extent_fits;
       len = ap (λ (n : ℕ). d.itemsize * n) (ap product (shape_turned d.dims) ∙ product_turned (shape_of d.dims)) ∙ valid.len;
       inside = subst (All (IsInside d.itemsize room)) (sym (places_turned d.dims (pos start)))
@@ -75,7 +60,7 @@ stands_turned d start view stands =
       format = stands.format;
       itemsize = stands.itemsize;
       shape = shape_turned d.dims ∙ ap reverse stands.shape;
-      strides = map_turned (λ dim. dim.1) d.dims ∙ ap reverse stands.strides;
+      strides = map_of_reverse (λ dim. dim.1) d.dims ∙ ap reverse stands.strides;
       readonly = stands.readonly;
       starts = places_turned d.dims (pos start) ∙ columns_of_view d start view stands;
     }

@@ -1,10 +1,10 @@
 -- What the checks of a descriptor prove.
 use Rattle.std.proofs.Common.{◌≡◌, ◌≢◌, ℕ, ◌*◌, ◌^◌, ◌<◌, ◌≤◌, ℤ, pos, Bool, List, length, drop, All, Any, ap, sym, ◌∙◌, arith, mul-zero}
+use Rattle.pybuf_desc.specs.Facts.{length-places}
 use Rattle.pybuf_desc.specs.Layouts.{product}
 use Rattle.pybuf_desc.specs.Descriptor.{Descriptor, shape_of}
 use Rattle.pybuf_desc.specs.Places.{places}
 use Rattle.pybuf_desc.specs.Valid.{IsInside, IsValid}
-use Rattle.pybuf_desc.proofs.Steps.{length-places}
 use Rattle.pybuf_desc.proofs.Products.{extent_of, product-zero, product-extent, AreNonzero-from_All}
 
 -- what the checks say that come before the check of the entries

@@ -25,3 +25,4 @@ pub mod ColumnMajor
 pub mod ColumnCasts
 pub mod ColumnSegments
 pub mod CastChains
+pub mod Facts

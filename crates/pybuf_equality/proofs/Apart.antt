@@ -1,14 +1,16 @@
 -- Items that are equal exactly if their bytes are the same.
 use Rattle.std.proofs.Common.{◌≡◌, ℕ, zero, suc, ◌+◌, ◌<◌, ◌≤◌, pos, Bool, true, false, true≢false, List, [], ◌∷◌, ◌++◌, length, map, ap, ap₂, sym, ◌∙◌, refl, subst, arith, get_or, Fits, w8}
-use Rattle.std.specs.Prelude.{All, ◌==◌, ◌&&◌, bytes_eq, Result, Ok, Err, if◌then◌else◌}
+use Rattle.std.specs.Prelude.{All, ◌==◌, ◌&&◌, bytes_eq, Result, Ok}
 use Rattle.std.specs.List.{list_all, AllByRecursion}
 use Rattle.std.specs.Cmp.Lexicographic.{pointwise}
-use Rattle.std.proofs.lemmas.Bool.{eq-eqb, eqb-true}
+use Rattle.std.proofs.lemmas.Bool.{eqb-true}
 use Rattle.std.proofs.lemmas.Bool.Decides.{Decides-int_eq}
 use Rattle.std.proofs.lemmas.Slice.Eq.{bytes_eq-Decides}
 use Rattle.std.proofs.lemmas.List.Elements.{All-head, All-tail, All-take, All-drop, All-from_get_or}
+use Rattle.pybuf_lemmas.proofs.Booleans.{first_of_both, second_of_both}
+use Rattle.pybuf_struct.specs.Facts.{unpacked_at}
+use Rattle.pybuf_desc.specs.Facts.{whole_bytes}
 use Rattle.pybuf_value.specs.declared.faults.Fault.{Fault}
-use Rattle.pybuf_value.specs.declared.faults.Fault.TheVariants as fault
 use Rattle.pybuf_value.specs.declared.values.Scalar.{Scalar}
 use Rattle.pybuf_value.specs.declared.values.Scalar.TheVariants as scalar
 use Rattle.pybuf_value.specs.declared.values.Item.{Item}
@@ -34,8 +36,7 @@ use Rattle.pybuf_memoryview.specs.declared.readers.ItemReader.TheVariants as rea
 use Rattle.pybuf_equality.specs.Equality.{same_items}
 use Rattle.pybuf_equality.specs.Exact.{is_exact_code, is_exact_format, is_exact_reader}
 use Rattle.pybuf_equality.specs.Reading.{ReadsAs}
-use Rattle.pybuf_equality.proofs.Bools.{first, second, alike, bytes_both}
-use Rattle.pybuf_equality.proofs.Cut.{length-bytes_at}
+use Rattle.pybuf_equality.proofs.Bools.{alike, bytes_both}
 
 -- ---- values of exact codes are numbers and bytes
 
@@ -87,8 +88,8 @@ all_exact : (o : Endianness) (offset : ℕ) (codes : List Code) → list_all is_
 all_exact o offset [] e = tt
 all_exact o offset (c ∷ codes) e =
     both_fields (fields_of_code c.code (size_of o c.code) (offset + c.pre_padding) c.repeat) (fields_from o (offset_after o offset c) codes)
-    (code_exact c.code (size_of o c.code) (offset + c.pre_padding) c.repeat (second (c.pre_padding == 0) (is_exact c.code) (first (is_exact_code c) (list_all is_exact_code codes) e)))
-    (all_exact o (offset_after o offset c) codes (second (is_exact_code c) (list_all is_exact_code codes) e))
+    (code_exact c.code (size_of o c.code) (offset + c.pre_padding) c.repeat (second_of_both (c.pre_padding == 0) (is_exact c.code) (first_of_both (is_exact_code c) (list_all is_exact_code codes) e)))
+    (all_exact o (offset_after o offset c) codes (second_of_both (is_exact_code c) (list_all is_exact_code codes) e))
 
 plain_values : (o : Endianness) (bytes : List ℕ) (fs : List Field) → AllByRecursion IsExactField fs → AllByRecursion IsPlain (map (value_in o bytes) fs)
 plain_values o bytes [] e = tt
@@ -97,9 +98,9 @@ plain_values o bytes (f ∷ fs) e = (plain_value o f.code _ e.0, plain_values o 
 exact_codes : (codes : List Code) → list_all is_exact_code codes ≡ true → AreExact codes
 exact_codes [] e = tt
 exact_codes (c ∷ codes) e =
-    let here = first (is_exact_code c) (list_all is_exact_code codes) e in
-    let unpadded : c.pre_padding ≡ 0 = eqb-true c.pre_padding 0 (first (c.pre_padding == 0) (is_exact c.code) here) in
-    ((unpadded, second (c.pre_padding == 0) (is_exact c.code) here), exact_codes codes (second (is_exact_code c) (list_all is_exact_code codes) e))
+    let here = first_of_both (is_exact_code c) (list_all is_exact_code codes) e in
+    let unpadded : c.pre_padding ≡ 0 = eqb-true c.pre_padding 0 (first_of_both (c.pre_padding == 0) (is_exact c.code) here) in
+    ((unpadded, second_of_both (c.pre_padding == 0) (is_exact c.code) here), exact_codes codes (second_of_both (is_exact_code c) (list_all is_exact_code codes) e))
 
 -- ---- equal items are the same
 
@@ -117,8 +118,8 @@ same_parts [] [] p q e = refl
 same_parts [] (y ∷ ys) p q e = absurd (true≢false (sym e))
 same_parts (x ∷ xs) [] p q e = absurd (true≢false (sym e))
 same_parts (x ∷ xs) (y ∷ ys) p q e =
-    ap₂ (λ (z : Scalar) (zs : List Scalar). z ∷ zs) (same_plain x y p.0 q.0 (first (same_scalar x y) (pointwise same_scalar xs ys) e))
-    (same_parts xs ys p.1 q.1 (second (same_scalar x y) (pointwise same_scalar xs ys) e))
+    ap₂ (λ (z : Scalar) (zs : List Scalar). z ∷ zs) (same_plain x y p.0 q.0 (first_of_both (same_scalar x y) (pointwise same_scalar xs ys) e))
+    (same_parts xs ys p.1 q.1 (second_of_both (same_scalar x y) (pointwise same_scalar xs ys) e))
 
 same_values : (xs ys : List Scalar) → AllByRecursion IsPlain xs → AllByRecursion IsPlain ys → same_item (item_of xs) (item_of ys) ≡ true → xs ≡ ys
 same_values [] [] p q e = refl
@@ -136,19 +137,16 @@ same_values (x ∷ (w ∷ xs)) (y ∷ (z ∷ ys)) p q e = same_parts (x ∷ (w �
 abbrev pub AreBytes : List ℕ → Type 0
 AreBytes xs = All (λ b. b < 256) xs
 
-read_whole : (f : Format) (xs : List ℕ) → length xs ≡ f.size → unpacked_values f xs ≡ Ok (values f xs)
-read_whole f xs long = ap (λ (t : Bool). if t then Ok (values f xs) else Err fault.Struct) (eq-eqb (length xs) f.size long)
-
 ok_same : (xs ys : List ℕ) (r : Result (List ℕ) Fault) → r ≡ Ok xs → r ≡ Ok ys → xs ≡ ys
 ok_same xs ys r p q = cc
 
 fields_apart : WritesWhatWasRead → (text : List ℕ) (f : Format) (size : ℕ) (xs ys : List ℕ) → format_of text ≡ Ok f → is_exact_format f size ≡ true → AreBytes xs → AreBytes ys → length xs ≡ size → length ys ≡ size
     → same_item (item_of_values (unpacked_values f xs)) (item_of_values (unpacked_values f ys)) ≡ true → xs ≡ ys
 fields_apart law text f size xs ys spelled exact small others_small long other_long e =
-    let sized : f.size ≡ size = eqb-true f.size size (first (f.size == size) (list_all is_exact_code f.codes) exact) in
-    let codes = second (f.size == size) (list_all is_exact_code f.codes) exact in
-    let read = read_whole f xs (long ∙ sym sized) in
-    let other_read = read_whole f ys (other_long ∙ sym sized) in
+    let sized : f.size ≡ size = eqb-true f.size size (first_of_both (f.size == size) (list_all is_exact_code f.codes) exact) in
+    let codes = second_of_both (f.size == size) (list_all is_exact_code f.codes) exact in
+    let read = unpacked_at f xs (long ∙ sym sized) in
+    let other_read = unpacked_at f ys (other_long ∙ sym sized) in
     let plain = all_exact f.order 0 f.codes codes in
     let e_values : same_item (item_of (values f xs)) (item_of (values f ys)) ≡ true =
     ap₂ (λ (r s : Result (List Scalar) Fault). same_item (item_of_values r) (item_of_values s)) (sym read) (sym other_read) ∙ e in
@@ -195,8 +193,8 @@ contents_as_bytes law writes r text size bytes other [] [] spelled reads exact s
 contents_as_bytes law writes r text size bytes other [] (o ∷ others) spelled reads exact small others_small as_many inside other_inside = absurd (omega (arith, as_many))
 contents_as_bytes law writes r text size bytes other (s ∷ starts) [] spelled reads exact small others_small as_many inside other_inside = absurd (omega (arith, as_many))
 contents_as_bytes law writes r text size bytes other (s ∷ starts) (o ∷ others) spelled reads exact small others_small as_many inside other_inside =
-    let long = length-bytes_at bytes size s (All-head (λ x. x + size ≤ length bytes) s starts inside) in
-    let other_long = length-bytes_at other size o (All-head (λ x. x + size ≤ length other) o others other_inside) in
+    let long = whole_bytes bytes size s (All-head (λ x. x + size ≤ length bytes) s starts inside) in
+    let other_long = whole_bytes other size o (All-head (λ x. x + size ≤ length other) o others other_inside) in
     let fewer : length starts ≡ length others = omega (arith, as_many) in
     ap₂ (λ (a b : Bool). a && b)
     (items_as_bytes law writes r text size (bytes_at bytes size s) (bytes_at other size o) spelled reads exact
@@ -212,7 +210,7 @@ items_alike : (text other_text : List ℕ) (size : ℕ) (bytes starts : List ℕ
     → items_from text bytes size starts ≡ items_from other_text bytes size starts
 items_alike text other_text size bytes [] alike inside = refl
 items_alike text other_text size bytes (s ∷ starts) alike inside =
-    ap₂ (λ (item : Item) (items : List Item). item ∷ items) (alike (bytes_at bytes size s) (length-bytes_at bytes size s (All-head (λ x. x + size ≤ length bytes) s starts inside)))
+    ap₂ (λ (item : Item) (items : List Item). item ∷ items) (alike (bytes_at bytes size s) (whole_bytes bytes size s (All-head (λ x. x + size ≤ length bytes) s starts inside)))
     (items_alike text other_text size bytes starts alike (All-tail (λ x. x + size ≤ length bytes) s starts inside))
 
 pub exact_views : ItemEqualityIsEquivalence → WritesWhatWasRead → (r : ItemReader) (bytes other : List ℕ) (layout other_layout : Layout)

@@ -1,6 +1,7 @@
 -- Numbers that are tested one after the other.
-use Rattle.std.proofs.Common.{◌≡◌, ℕ, zero, suc, ◌+◌, ◌-◌, ◌<◌, Bool, true, false, ap, ap₂, ◌∙◌, refl, arith}
+use Rattle.std.proofs.Common.{◌≡◌, ℕ, zero, suc, ◌+◌, ◌-◌, ◌<◌, Bool, true, false, ap, ap₂, ◌∙◌, arith}
 use Rattle.std.specs.Prelude.{◌&&◌}
+use Rattle.pybuf_lemmas.proofs.Booleans.{and_false}
 use Rattle.pybuf_equality.specs.Tracks.{all_below}
 
 -- One more number passes.
@@ -9,14 +10,10 @@ more_below test k so_far here =
     let next : k + 1 ≡ suc k = omega arith in
     ap (all_below test) next ∙ ap₂ (λ (a b : Bool). a && b) so_far here
 
-none_of : (b : Bool) → (b && false) ≡ false
-none_of true = refl
-none_of false = refl
-
 failed_after : (test : ℕ → Bool) (k d : ℕ) → test k ≡ false → all_below test (d + suc k) ≡ false
 failed_after test k zero fails =
     let last : 0 + suc k ≡ suc k = omega arith in
-    ap (all_below test) last ∙ ap (λ (b : Bool). all_below test k && b) fails ∙ none_of (all_below test k)
+    ap (all_below test) last ∙ ap (λ (b : Bool). all_below test k && b) fails ∙ and_false (all_below test k)
 failed_after test k (suc d) fails =
     let next : suc d + suc k ≡ suc (d + suc k) = omega arith in
     ap (all_below test) next ∙ ap (λ (b : Bool). b && test (d + suc k)) (failed_after test k d fails)

@@ -1,27 +1,11 @@
 -- Tests that hold together.
-use Rattle.std.proofs.Common.{◌≡◌, ℕ, Bool, true, false, true≢false, sym, ◌∙◌, refl, ap, List, [], ◌∷◌, ◌++◌, length, arith}
+use Rattle.std.proofs.Common.{◌≡◌, ℕ, Bool, true, false, sym, ◌∙◌, refl, ap, List, [], ◌∷◌, ◌++◌, length, arith}
 use Rattle.std.specs.Prelude.{◌&&◌, ◌||◌, ◌==◌, bytes_eq}
 use Rattle.std.specs.List.{list_all}
 
 -- A list whose first element passes the test passes it if the others do.
 pub tested_first : {X : Type 0} (p : X → Bool) (x : X) (xs rest : List X) (total : Bool) → xs ≡ x ∷ rest → p x ≡ true → list_all p xs ≡ total → list_all p rest ≡ total
 tested_first p x xs rest total same passes all = ap (λ (t : Bool). t && list_all p rest) (sym passes) ∙ ap (list_all p) (sym same) ∙ all
-
-pub both : (a b : Bool) → a ≡ true → b ≡ true → (a && b) ≡ true
-both true b p q = q
-both false b p q = p
-
-pub first : (a b : Bool) → (a && b) ≡ true → a ≡ true
-first true b p = refl
-first false b p = p
-
-pub second : (a b : Bool) → (a && b) ≡ true → b ≡ true
-second true b p = p
-second false b p = absurd (true≢false (sym p))
-
-pub neither : (a b : Bool) → (a || b) ≡ false → b ≡ false
-neither true b p = absurd (true≢false p)
-neither false b p = p
 
 pub either : (a b : Bool) → (a || b) ≡ true → (a ≡ true → ⊥) → b ≡ true
 either true b p denied = absurd (denied refl)

@@ -1,13 +1,14 @@
 -- Layouts whose items fill their bytes.
-use Rattle.std.proofs.Common.{◌≡◌, ℕ, zero, suc, ◌+◌, ◌*◌, ◌<◌, ◌≤◌, ◌^◌, Bool, true, false, true≢false, List, [], ◌∷◌, ◌++◌, length, map, take, drop, ap, ap₂, sym, ◌∙◌, refl, subst, arith, drop-cons, get_or}
-use Rattle.std.specs.Prelude.{All, ◌==◌, ◌&&◌, ◌||◌, Result, Ok, Err, IfOk}
+use Rattle.std.proofs.Common.{◌≡◌, ℕ, zero, suc, ◌+◌, ◌*◌, ◌<◌, ◌≤◌, ◌^◌, Bool, true, false, List, [], ◌∷◌, ◌++◌, length, take, drop, ap, ap₂, sym, ◌∙◌, refl, subst, arith, drop-cons, get_or}
+use Rattle.std.specs.Prelude.{All, ◌==◌, ◌&&◌, Result, Ok, Err, IfOk}
 use Rattle.std.specs.List.{range_with_len}
-use Rattle.std.proofs.lemmas.Slice.Eq.{bytes_eq-Decides}
 use Rattle.std.proofs.lemmas.List.{take_all}
-use Rattle.std.proofs.lemmas.List.Elements.{All-nil, All-cons, All-head, All-tail}
-use Rattle.std.proofs.lemmas.List.FromFn.{length-range_with_len, get_or-range_with_len}
+use Rattle.std.proofs.lemmas.List.Elements.{All-nil, All-cons}
+use Rattle.std.proofs.lemmas.List.FromFn.{length-range_with_len}
+use Rattle.pybuf_lemmas.proofs.Numbers.{positive_if_nonzero}
+use Rattle.pybuf_lemmas.proofs.Booleans.{first_of_neither, second_of_neither}
+use Rattle.pybuf_desc.specs.Facts.{whole_is_contiguous, whole_is_inside}
 use Rattle.pybuf_value.specs.declared.snaps.Snap.{Snap}
-use Rattle.pybuf_desc.specs.Contiguous.{starts_from, is_contiguous_layout}
 use Rattle.pybuf_desc.specs.Items.{bytes_of_items, content_of_layout}
 use Rattle.pybuf_desc.specs.Layouts.{Layout, LiesInside, bytes_layout, product}
 use Rattle.pybuf_desc.specs.ShapedCasts.{cast_to}
@@ -16,25 +17,8 @@ use Rattle.pybuf_memoryview.specs.Orders.{has_zero_entry}
 use Rattle.pybuf_memoryview.specs.Snaps.{snap_of_layout}
 use Rattle.pybuf_equality.specs.Equality.{items_cut, items_of_snap, shapes_agree, same_items, same_view, snap_of_bytes}
 use Rattle.pybuf_equality.specs.Packed.{IsPacked}
-use Rattle.pybuf_equality.proofs.Bools.{neither}
 
 -- ---- all bytes as one view
-
-by_ones : (xs : List ℕ) → map (λ k. 0 + k * 1) xs ≡ xs
-by_ones [] = refl
-by_ones (x ∷ xs) = ap₂ (λ (y : ℕ) (ys : List ℕ). y ∷ ys) (let same : 0 + x * 1 ≡ x = omega arith in same) (by_ones xs)
-
-whole_starts : (n : ℕ) → range_with_len 0 n ≡ starts_from (range_with_len 0 n) 1 (length (range_with_len 0 n))
-whole_starts zero = refl
-whole_starts (suc n) = sym (ap (λ (m : ℕ). map (λ k. 0 + k * 1) (range_with_len 0 m)) (length-range_with_len 0 (suc n)) ∙ by_ones (range_with_len 0 (suc n)))
-
-pub whole_is_contiguous : (n : ℕ) (readonly : Bool) → is_contiguous_layout (bytes_layout n readonly) ≡ true
-whole_is_contiguous n readonly = (bytes_eq-Decides (range_with_len 0 n) (starts_from (range_with_len 0 n) 1 (length (range_with_len 0 n)))).1 (whole_starts n)
-
-pub whole_is_inside : (n : ℕ) (readonly : Bool) → LiesInside n (bytes_layout n readonly)
-whole_is_inside n readonly = λ k d below.
-    let within : k < n = omega (arith, below, length-range_with_len 0 n) in
-    omega (arith, within, get_or-range_with_len 0 n k d within)
 
 one_more : (xs : List ℕ) (n : ℕ) (x : ℕ) (ys : List ℕ) → xs ≡ x ∷ ys → take 1 xs ++ take n ys ≡ take (suc n) xs
 one_more xs n x ys is = ap (λ (zs : List ℕ). take 1 zs ++ take n ys) is ∙ ap (take (suc n)) (sym is)
@@ -73,31 +57,15 @@ pub packed_so : {E : Type 0} (r : Result Layout E) (bytes text : List ℕ) (size
 packed_so (Ok v) bytes text size shape made is packed = subst (IsPacked bytes text size shape) (sym is) packed
 packed_so (Err e) bytes text size shape made is packed = tt
 
-some_product : (n p : ℕ) → 0 < n → 0 < p → 0 < n * p
-some_product zero p some more = absurd (omega (arith, some))
-some_product (suc n) p some more = let all : suc n * p ≡ p + n * p = grind arith in omega (arith, all, more)
-
-pub product_some : (shape : List ℕ) → All (λ n. 0 < n) shape → 0 < product shape
-product_some [] all = omega arith
-product_some (n ∷ shape) all = some_product n (product shape) (All-head (λ k. 0 < k) n shape all) (product_some shape (All-tail (λ k. 0 < k) n shape all))
-
 pub at_most_all : (size p : ℕ) → 0 < p → size ≤ size * p
 at_most_all size zero some = absurd (omega (arith, some))
 at_most_all size (suc p) some = let all : size * suc p ≡ size + size * p = grind arith in omega (arith, all)
 
 -- ---- what is known of a snap with all its items
 
-some_of : (n : ℕ) → (n == 0) ≡ false → 0 < n
-some_of zero none = absurd (true≢false none)
-some_of (suc n) none = omega arith
-
-not_either : (a b : Bool) → (a || b) ≡ false → a ≡ false
-not_either true b e = absurd (true≢false e)
-not_either false b e = refl
-
 pub entries_some : (s : List ℕ) → has_zero_entry s ≡ false → All (λ n. 0 < n) s
 entries_some [] none = All-nil (λ n. 0 < n)
-entries_some (n ∷ s) none = All-cons (λ k. 0 < k) n s (some_of n (not_either (n == 0) (has_zero_entry s) none)) (entries_some s (neither (n == 0) (has_zero_entry s) none))
+entries_some (n ∷ s) none = All-cons (λ k. 0 < k) n s (positive_if_nonzero n (first_of_neither (n == 0) (has_zero_entry s) none)) (entries_some s (second_of_neither (n == 0) (has_zero_entry s) none))
 
 -- ---- equality with what has the same parts
 

@@ -9,6 +9,7 @@ use Rattle.std.proofs.lemmas.List.{length-append, map-append, get_or_append_left
 use Rattle.std.proofs.lemmas.List.Elements.{All-head, All-tail}
 use Rattle.std.proofs.lemmas.List.Folds.{list_all-append}
 use Rattle.std.proofs.lemmas.List.FromFn.{length-map-range_with_len}
+use Rattle.pybuf_lemmas.proofs.Numbers.{range_with_one_more}
 use Rattle.pybuf_strided.specs.Apart.{place_of, AreInside}
 use Rattle.pybuf_struct.specs.Digits.{number}
 use Rattle.pybuf_desc.specs.declared.line.SegmentLine.{SegmentLine}
@@ -36,12 +37,6 @@ pub as_pairs : (line other : SegmentLine) → line.count ≡ other.count → pai
 as_pairs line other as_many =
     ap (λ (n : ℕ). zip (ranges_of_line line) (map (range_of other) (range_with_len 0 n))) (sym as_many) ∙ zipped (range_of line) (range_of other) (range_with_len 0 line.count)
 
-one_more : (j n : ℕ) → range_with_len j (suc n) ≡ range_with_len j n ++ (j + n) ∷ []
-one_more j zero = let same : j ≡ j + 0 = omega arith in ap (λ (k : ℕ). k ∷ []) same
-one_more j (suc n) =
-    let same : (j + 1) + n ≡ j + suc n = omega arith in
-    ap (λ (xs : List ℕ). j ∷ xs) (one_more (j + 1) n ∙ ap (λ (k : ℕ). range_with_len (j + 1) n ++ k ∷ []) same)
-
 and_true : (b : Bool) → (b && true) ≡ b
 and_true true = refl
 and_true false = refl
@@ -54,7 +49,7 @@ tested_row : (test : Pair → Bool) (pair : ℕ → Pair) (n : ℕ) → list_all
 tested_row test pair zero = refl
 tested_row test pair (suc n) =
     let last : 0 + n ≡ n = omega arith in
-    ap (λ (ks : List ℕ). list_all test (map pair ks)) (one_more 0 n ∙ ap (λ (k : ℕ). range_with_len 0 n ++ k ∷ []) last)
+    ap (λ (ks : List ℕ). list_all test (map pair ks)) (range_with_one_more 0 n ∙ ap (λ (k : ℕ). range_with_len 0 n ++ k ∷ []) last)
     ∙ ap (list_all test) (map-append pair (range_with_len 0 n) (n ∷ []))
     ∙ list_all-append test (map pair (range_with_len 0 n)) (pair n ∷ [])
     ∙ ap₂ (λ (a b : Bool). a && b) (tested_row test pair n) (and_true (test (pair n)))

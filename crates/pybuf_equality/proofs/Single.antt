@@ -5,6 +5,7 @@ use Rattle.std.proofs.lemmas.Int.{ints}
 use Rattle.std.proofs.lemmas.Bool.Decides.{Decides-int_eq}
 use Rattle.std.proofs.lemmas.Slice.Eq.{bytes_eq-Decides}
 use Rattle.std.proofs.lemmas.List.Elements.{All-head, All-tail}
+use Rattle.pybuf_lemmas.proofs.Booleans.{first_of_both, second_of_both}
 use Rattle.pybuf_value.specs.declared.values.Scalar.TheVariants as scalar
 use Rattle.pybuf_value.specs.declared.values.Item.{Item}
 use Rattle.pybuf_value.specs.declared.values.Item.TheVariants as item
@@ -15,7 +16,6 @@ use Rattle.pybuf_desc.specs.Layouts.{product}
 use Rattle.pybuf_memoryview.specs.Items.{item_by}
 use Rattle.pybuf_equality.specs.Equality.{items_cut, items_of_snap, shapes_agree, same_items}
 use Rattle.pybuf_equality.specs.Laws.{IsByteFormat, EqualByteViewsHoldTheSameBytes}
-use Rattle.pybuf_equality.proofs.Bools.{first, second}
 
 -- ---- what a byte reads as
 
@@ -112,15 +112,15 @@ cut_alike f g (suc n) zero xs ys is other_is long other_long small other e = abs
 cut_alike f g (suc n) (suc m) [] ys is other_is long other_long small other e = absurd (omega (arith, long))
 cut_alike f g (suc n) (suc m) (x ∷ xs) [] is other_is long other_long small other e = absurd (omega (arith, other_long))
 cut_alike f g (suc n) (suc m) (x ∷ xs) (y ∷ ys) is other_is long other_long small other e =
-    let rest : same_items (items_cut f 1 n xs) (items_cut g 1 m ys) ≡ true = second (same_item (item_by f (x ∷ [])) (item_by g (y ∷ []))) (same_items (items_cut f 1 n xs) (items_cut g 1 m ys)) e in
+    let rest : same_items (items_cut f 1 n xs) (items_cut g 1 m ys) ≡ true = second_of_both (same_item (item_by f (x ∷ [])) (item_by g (y ∷ []))) (same_items (items_cut f 1 n xs) (items_cut g 1 m ys)) e in
     ap₂ (λ (z : ℕ) (zs : List ℕ). z ∷ zs)
     (items_alike f g x y is other_is (All-head (λ b. b < 256) x xs small) (All-head (λ b. b < 256) y ys other)
-    (first (same_item (item_by f (x ∷ [])) (item_by g (y ∷ []))) (same_items (items_cut f 1 n xs) (items_cut g 1 m ys)) e))
+    (first_of_both (same_item (item_by f (x ∷ [])) (item_by g (y ∷ []))) (same_items (items_cut f 1 n xs) (items_cut g 1 m ys)) e))
     (cut_alike f g n m xs ys is other_is (omega (arith, long)) (omega (arith, other_long)) (All-tail (λ b. b < 256) x xs small) (All-tail (λ b. b < 256) y ys other) rest)
 
 pub same_bytes_held : EqualByteViewsHoldTheSameBytes
 same_bytes_held s t is other_is e =
-    let later = second (length s.shape == length t.shape) (shapes_agree s.shape t.shape && same_items (items_of_snap s) (items_of_snap t)) e in
-    let items = second (shapes_agree s.shape t.shape) (same_items (items_of_snap s) (items_of_snap t)) later in
+    let later = second_of_both (length s.shape == length t.shape) (shapes_agree s.shape t.shape && same_items (items_of_snap s) (items_of_snap t)) e in
+    let items = second_of_both (shapes_agree s.shape t.shape) (same_items (items_of_snap s) (items_of_snap t)) later in
     cut_alike s.format t.format (product s.shape) (product t.shape) s.content t.content is.format other_is.format is.filled other_is.filled is.bytes other_is.bytes
     (ap₂ (λ (n m : ℕ). same_items (items_cut s.format n (product s.shape) s.content) (items_cut t.format m (product t.shape) t.content)) (sym is.size) (sym other_is.size) ∙ items)

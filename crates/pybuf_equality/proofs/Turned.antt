@@ -4,10 +4,11 @@ use Rattle.std.specs.Prelude.{◌&&◌, bytes_eq}
 use Rattle.std.proofs.Math.Seq.{take-add}
 use Rattle.std.proofs.Math.Nat.{zero-mul}
 use Rattle.std.proofs.lemmas.List.{drop-drop}
+use Rattle.pybuf_lemmas.proofs.Numbers.{positive_has_predecessor}
+use Rattle.pybuf_desc.specs.Facts.{whole_bytes}
 use Rattle.pybuf_strided.specs.Apart.{place_of, AreInside}
 use Rattle.pybuf_equality.specs.Tracks.{all_below, same_piece}
 use Rattle.pybuf_equality.proofs.Bools.{bytes_both}
-use Rattle.pybuf_equality.proofs.Cut.{length-bytes_at}
 
 either_way : (a b : Bool) → (a && b) ≡ (b && a)
 either_way true true = refl
@@ -29,7 +30,7 @@ one_lower bytes start size n low =
     ∙ ap (λ (xs : List ℕ). take size (drop lo bytes) ++ take (n * size + size) xs) (drop-drop size lo bytes ∙ ap (λ (k : ℕ). drop k bytes) next)
 
 piece_is : (bytes : List ℕ) (start size n : ℕ) → suc n * size ≤ start → start + size ≤ length bytes → length (take size (drop (start - suc n * size) bytes)) ≡ size
-piece_is bytes start size n low inside = length-bytes_at bytes size (start - suc n * size) (let fits : (start - suc n * size) + size ≤ length bytes = omega (arith, low, inside) in fits)
+piece_is bytes start size n low inside = whole_bytes bytes size (start - suc n * size) (let fits : (start - suc n * size) + size ≤ length bytes = omega (arith, low, inside) in fits)
 
 turned : (bytes other : List ℕ) (start other_start size n : ℕ) → n * size ≤ start → n * size ≤ other_start → start + size ≤ length bytes → other_start + size ≤ length other
     → all_below (same_piece bytes (place_of true start size) other (place_of true other_start size) size) (suc n) ≡ bytes_eq (run bytes start size n) (run other other_start size n)
@@ -46,9 +47,6 @@ turned bytes other start other_start size (suc n) low other_low inside other_ins
     ∙ sym (bytes_both piece (run bytes start size n) other_piece (run other other_start size n) (piece_is bytes start size n low inside ∙ sym (piece_is other other_start size n other_low other_inside)))
     ∙ ap₂ bytes_eq (sym (one_lower bytes start size n low)) (sym (one_lower other other_start size n other_low))
 
-last_of : (count : ℕ) → 0 < count → count ≡ suc (count - 1)
-last_of count some = omega (arith, some)
-
 pub lowest : (start size count room : ℕ) → 0 < count → AreInside true start size count size room → (count - 1) * size ≤ start
 lowest start size count room some inside = inside.low (count - 1) (let less : count - 1 < count = omega (arith, some) in less) refl
 
@@ -61,7 +59,7 @@ pub turned_run : (bytes other : List ℕ) (start other_start size count : ℕ) �
     → bytes_eq (take ((count - 1) * size + size) (drop (start - (count - 1) * size) bytes)) (take ((count - 1) * size + size) (drop (other_start - (count - 1) * size) other))
     ≡ all_below (same_piece bytes (place_of true start size) other (place_of true other_start size) size) count
 turned_run bytes other start other_start size count some_size some inside other_inside =
-    sym (ap (all_below (same_piece bytes (place_of true start size) other (place_of true other_start size) size)) (last_of count some)
+    sym (ap (all_below (same_piece bytes (place_of true start size) other (place_of true other_start size) size)) (positive_has_predecessor count some)
     ∙ turned bytes other start other_start size (count - 1) (lowest start size count (length bytes) some inside) (lowest other_start size count (length other) some other_inside)
     (highest start size count (length bytes) some_size some inside) (highest other_start size count (length other) some_size some other_inside))
 

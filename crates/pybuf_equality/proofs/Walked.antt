@@ -1,12 +1,14 @@
 -- Two views, walked side by side.
-use Rattle.std.proofs.Common.{◌≡◌, ℕ, zero, suc, ◌+◌, ◌*◌, ◌-◌, ◌≤◌, ℤ, pos, nat_abs, Bool, true, false, List, [], ◌∷◌, length, map, take, drop, ap, ap₂, sym, ◌∙◌, refl, subst, arith}
+use Rattle.std.proofs.Common.{◌≡◌, ℕ, zero, suc, ◌+◌, ◌*◌, ◌-◌, ◌≤◌, ℤ, pos, Bool, true, false, List, [], ◌∷◌, length, map, take, drop, ap, ap₂, sym, ◌∙◌, refl, subst, arith}
 use Rattle.std.specs.Prelude.{All, bytes_eq, min, ◌==◌, ◌&&◌, if◌then◌else◌}
 use Rattle.std.specs.List.{flat_map, list_all}
 use Rattle.std.proofs.Math.Nat.{min-le_left, min-le_right}
 use Rattle.std.specs.declared.ops.Range.{Range}
 use Rattle.std.proofs.lemmas.Bool.{eqb-true}
 use Rattle.std.proofs.lemmas.List.Elements.{All-head, All-tail, All-nil, All-cons}
-use Rattle.std.proofs.lemmas.List.{drop-map, length-map, length-take-le, length-drop, take_all, drop_all}
+use Rattle.std.proofs.lemmas.List.{length-map, length-take-le, length-drop, take_all, drop_all}
+use Rattle.pybuf_lemmas.proofs.Booleans.{false_if_never_true}
+use Rattle.pybuf_desc.specs.Facts.{forward_ranges, width, row_width, range_widths, whole_bytes}
 use Rattle.pybuf_value.specs.declared.values.Item.{Item}
 use Rattle.pybuf_value.specs.declared.values.Item.TheVariants as item
 use Rattle.pybuf_value.specs.declared.values.Scalar.TheVariants as scalar
@@ -14,7 +16,7 @@ use Rattle.pybuf_value.specs.Equality.{same_item}
 use Rattle.pybuf_struct.specs.Digits.{number}
 use Rattle.pybuf_desc.specs.Descriptor.{Descriptor, shape_of}
 use Rattle.pybuf_desc.specs.Tails.{tail_of}
-use Rattle.pybuf_desc.specs.Segments.{range_at, ranges_of, joined_dims, outer_dims, bytes_in}
+use Rattle.pybuf_desc.specs.Segments.{range_at, ranges_of, bytes_in}
 use Rattle.pybuf_desc.specs.Pairs.{joined_count_of_both}
 use Rattle.pybuf_desc.specs.Layouts.{Layout, LiesInside, HasItemsOfItsShape, product}
 use Rattle.pybuf_desc.specs.Items.{bytes_at, content_of_layout}
@@ -29,7 +31,6 @@ use Rattle.pybuf_equality.specs.Equality.{same_items}
 use Rattle.pybuf_equality.specs.Reading.{ReadsAs, ReadsAsNumber}
 use Rattle.pybuf_equality.specs.Walks.{IsPart, ArePaired, AreAsLong, HaveSizes, same_bytes_in, same_ranges, same_items_of, same_numbers_of}
 use Rattle.pybuf_equality.proofs.Bools.{bytes_both}
-use Rattle.pybuf_equality.proofs.Cut.{length-bytes_at}
 use Rattle.pybuf_equality.proofs.Apart.{items_from}
 
 abbrev pub firsts : List (Range ℕ × Range ℕ) → List (Range ℕ)
@@ -56,17 +57,6 @@ joined_of_other d o = least_right (d.itemsize == o.itemsize) (tail_of d) (tail_o
 
 -- ---- ranges that lie inside
 
-forward_at : (w : ℕ) (ps : List ℤ) → All (λ (range : Range ℕ). range.start ≤ range.end) (map (range_at w) ps)
-forward_at w [] = All-nil (λ (range : Range ℕ). range.start ≤ range.end)
-forward_at w (p ∷ ps) = All-cons (λ (range : Range ℕ). range.start ≤ range.end) (range_at w p) (map (range_at w) ps) (let low : nat_abs p ≤ nat_abs p + w = omega arith in low) (forward_at w ps)
-
-forward_where : (b : Bool) (w : ℕ) (ps : List ℤ) → All (λ (range : Range ℕ). range.start ≤ range.end) (if b then [] else map (range_at w) ps)
-forward_where true w ps = All-nil (λ (range : Range ℕ). range.start ≤ range.end)
-forward_where false w ps = forward_at w ps
-
-forward_ranges : (d : Descriptor) (start : ℤ) (joined : ℕ) → All (λ (range : Range ℕ). range.start ≤ range.end) (ranges_of d start joined)
-forward_ranges d start joined = forward_where (product (shape_of d.dims) == 0) (product (shape_of (joined_dims joined d.dims)) * d.itemsize) (places (outer_dims joined d.dims) start)
-
 are_parts : (room : ℕ) (ranges : List (Range ℕ)) → All (λ (range : Range ℕ). range.start ≤ range.end) ranges → All (λ (range : Range ℕ). range.end ≤ room) ranges → All (IsPart room) ranges
 are_parts room ranges forward inside = λ k d below. record { forward = forward k d below; inside = inside k d below }
 
@@ -87,30 +77,6 @@ are_paired d o start other_start joined other_joined room other_room pairs is ot
     (subst (All (IsPart other_room)) (sym other_is) (are_parts other_room (ranges_of o other_start other_joined) (forward_ranges o other_start other_joined) other_inside))
 
 -- ---- ranges that are equally long
-
-abbrev width : Range ℕ → ℕ
-width range = range.end - range.start
-
-widths : (w : ℕ) (ps : List ℤ) → All (λ range. width range ≡ w) (map (range_at w) ps)
-widths w [] = All-nil (λ range. width range ≡ w)
-widths w (p ∷ ps) = All-cons (λ range. width range ≡ w) (range_at w p) (map (range_at w) ps) (let same : (nat_abs p + w) - nat_abs p ≡ w = omega arith in same) (widths w ps)
-
-chosen_widths : (w : ℕ) (b : Bool) (ps : List ℤ) → All (λ range. width range ≡ w) (if b then [] else map (range_at w) ps)
-chosen_widths w true ps = All-nil (λ range. width range ≡ w)
-chosen_widths w false ps = widths w ps
-
-abbrev row_width : ℕ → ℕ → List ℕ → ℕ
-row_width itemsize joined shape = product (drop (length shape - joined) shape) * itemsize
-
-width_of_shape : (itemsize joined : ℕ) (dims : List (ℕ × ℤ × ℤ)) → product (shape_of (joined_dims joined dims)) * itemsize ≡ row_width itemsize joined (shape_of dims)
-width_of_shape itemsize joined dims =
-    ap (λ (shape : List ℕ). product shape * itemsize)
-    (sym (drop-map (λ (dim : ℕ × ℤ × ℤ). dim.0) (length dims - joined) dims) ∙ ap (λ (n : ℕ). drop (n - joined) (shape_of dims)) (sym (length-map dims (λ (dim : ℕ × ℤ × ℤ). dim.0))))
-
-range_widths : (d : Descriptor) (start : ℤ) (joined : ℕ) → All (λ range. width range ≡ row_width d.itemsize joined (shape_of d.dims)) (ranges_of d start joined)
-range_widths d start joined =
-    subst (λ (w : ℕ). All (λ range. width range ≡ w) (ranges_of d start joined)) (width_of_shape d.itemsize joined d.dims)
-    (chosen_widths (product (shape_of (joined_dims joined d.dims)) * d.itemsize) (product (shape_of d.dims) == 0) (places (outer_dims joined d.dims) start))
 
 pub ranges_alike : (d o : Descriptor) (start other_start : ℤ) (joined : ℕ) (pairs : List (Range ℕ × Range ℕ)) → shape_of d.dims ≡ shape_of o.dims → d.itemsize ≡ o.itemsize
     → firsts pairs ≡ ranges_of d start joined → seconds pairs ≡ ranges_of o other_start joined
@@ -160,15 +126,11 @@ items_compared : (r s : List ℕ → Item) (bytes other : List ℕ) (pairs : Lis
 items_compared r s bytes other [] = refl
 items_compared r s bytes other (pair ∷ pairs) = ap (λ (t : Bool). same_read_in r s bytes other pair && t) (items_compared r s bytes other pairs)
 
-untrue : (b : Bool) → (b ≡ true → ⊥) → b ≡ false
-untrue true denied = absurd (denied refl)
-untrue false denied = refl
-
 chosen_ranges : (n : ℕ) (ranges : List (Range ℕ)) → length ranges ≡ n → (if n == 0 then [] else ranges) ≡ ranges
 chosen_ranges zero [] long = refl
 chosen_ranges zero (range ∷ ranges) long = absurd (omega (arith, long))
 chosen_ranges (suc n) ranges long =
-    ap (λ (t : Bool). if t then [] else ranges) (untrue (suc n == 0) (λ e. let same : suc n ≡ 0 = eqb-true (suc n) 0 e in absurd (omega (arith, same))))
+    ap (λ (t : Bool). if t then [] else ranges) (false_if_never_true (suc n == 0) (λ e. let same : suc n ≡ 0 = eqb-true (suc n) 0 e in absurd (omega (arith, same))))
 
 at_places : (size : ℕ) (starts : List ℕ) → map (range_at size) (map (λ x. pos x) starts) ≡ map (λ s. range_at size (pos s)) starts
 at_places size [] = refl
@@ -192,7 +154,7 @@ ranges_read : (r : List ℕ → Item) (text : List ℕ) (size : ℕ) (bytes star
     → map (λ range. r (bytes_in bytes range)) (map (λ s. range_at size (pos s)) starts) ≡ items_from text bytes size starts
 ranges_read r text size bytes [] reads inside = refl
 ranges_read r text size bytes (s ∷ starts) reads inside =
-    let long = length-bytes_at bytes size s (All-head (λ x. x + size ≤ length bytes) s starts inside) in
+    let long = whole_bytes bytes size s (All-head (λ x. x + size ≤ length bytes) s starts inside) in
     let whole : (s + size) - s ≡ size = omega arith in
     ap₂ (λ (item : Item) (items : List Item). item ∷ items)
     (ap (λ (n : ℕ). r (take n (drop s bytes))) whole ∙ reads (bytes_at bytes size s) long)

@@ -5,3 +5,4 @@ pub mod Walks
 pub mod Tracks
 pub mod Packed
 pub mod Laws
+pub mod Facts

@@ -1,10 +1,14 @@
 -- `set` of a view by a slice, as a whole command, assigns by value.
-use Rattle.std.proofs.Common.{◌≡◌, ℕ, ◌*◌, ◌<◌, List, [], ◌∷◌, ◌++◌, length, Bool, true, false, true≢false, ap, sym, ◌∙◌, refl, subst, arith}
-use Rattle.std.specs.Prelude.{All, ◌&&◌, ◌==◌, nat_lt, Option, Some, None, Result, Ok, Err, slice_get, IfSome, if◌then◌else◌}
+use Rattle.std.proofs.Common.{◌≡◌, ℕ, ◌*◌, ◌<◌, List, [], ◌∷◌, ◌++◌, length, Bool, true, false, ap, sym, ◌∙◌, refl, subst, arith}
+use Rattle.std.specs.Prelude.{All, ◌==◌, Option, Some, None, Result, Ok, slice_get, IfSome, if◌then◌else◌}
 use Rattle.std.specs.Option.{ok_or, option_map}
-use Rattle.std.proofs.lemmas.Bool.{ltb-true}
 use Rattle.std.proofs.lemmas.List.Elements.{All-nil, All-cons, All-append}
 use Rattle.std.proofs.Math.Nat.{lt_of_mul-lt-mul_left}
+use Rattle.pybuf_lemmas.proofs.Booleans.{both_of}
+use Rattle.pybuf_exporter.specs.Facts.{answered_ok}
+use Rattle.pybuf_value.specs.Facts.{there, snap_is_there}
+use Rattle.pybuf_state.specs.Facts.{given_snap}
+use Rattle.pybuf_memoryview.specs.Facts.{sized_some}
 use Rattle.pybuf_value.specs.declared.faults.Fault.{Fault}
 use Rattle.pybuf_value.specs.declared.faults.Fault.TheVariants as fault
 use Rattle.pybuf_value.specs.declared.values.Scalar.TheVariants as scalar
@@ -13,7 +17,7 @@ use Rattle.pybuf_value.specs.declared.values.Value.TheVariants as value
 use Rattle.pybuf_value.specs.declared.snaps.Snap.{Snap}
 use Rattle.pybuf_value.specs.Refusing.{◌>>=◌, unless, IfDone}
 use Rattle.pybuf_value.specs.Snaps.{is_iterator}
-use Rattle.pybuf_struct.specs.Formats.{Format, format_of}
+use Rattle.pybuf_struct.specs.Formats.{format_of}
 use Rattle.pybuf_desc.specs.Items.{bytes_at, content_of_layout}
 use Rattle.pybuf_desc.specs.Slices.{slice_of}
 use Rattle.pybuf_command.specs.declared.kinds.ExporterKind.TheVariants as kind
@@ -28,7 +32,6 @@ use Rattle.pybuf_command.specs.Loans.{loan_of}
 use Rattle.pybuf_command.specs.Handles.{handles_of, handle_of_value}
 use Rattle.pybuf_memoryview.specs.Fits.{fits_snap}
 use Rattle.pybuf_memoryview.specs.Laws.{ContentsAreWhole}
-use Rattle.pybuf_memoryview.specs.Sized.{is_size_of}
 use Rattle.pybuf_memoryview.specs.Snaps.{snap_of_layout}
 use Rattle.pybuf_state.specs.Exporter.{Exporter, View, Iterator, new_exporter, live_layout}
 use Rattle.pybuf_state.specs.Fits.{fits, all_fit, SubjectsFit}
@@ -40,21 +43,12 @@ use Rattle.pybuf_state.specs.Snaps.{snap_of_exporter, snap_of_view, iterator_sna
 use Rattle.pybuf_state.specs.Sound.{IsSoundExporter}
 use Rattle.pybuf_verbs_writes.specs.Assign.{lent_source, source_in, assign_of_view}
 use Rattle.pybuf_verbs_writes.specs.Laws.{AssignIsSafe, AssignmentsAreByValue, ContentsHoldTheItems}
-use Rattle.pybuf_exporter.specs.Step.{settled_answer}
 use Rattle.pybuf_exporter.specs.Assigning.{item_in, item_of_subject, item_of_snap, item_of_loan, item_before, source_before, StepsAssignByValue, SnapsHoldTheItems}
 
 -- ---- the effect
 
 abbrev okay : Exporter × LocalReply → Result (Exporter × LocalReply) Fault
 okay after = Ok after
-
-refused_not : (f : Fault) → reply.Refused f ≡ reply.Ok → ⊥
-refused_not f is = absurd (cc)
-
-answered_ok : (e new : Exporter) (named : Bool) (effect : Result (Exporter × LocalReply) Fault) → settled_answer e (if named then effect else Err fault.UnknownName) ≡ (new, reply.Ok) → effect ≡ okay (new, reply.Ok)
-answered_ok e new true (Ok after) is = ap okay is
-answered_ok e new true (Err f) is = absurd (refused_not f (ap (λ (after : Exporter × LocalReply). after.1) is))
-answered_ok e new false effect is = absurd (refused_not fault.UnknownName (ap (λ (after : Exporter × LocalReply). after.1) is))
 
 -- ---- what is lent fits
 
@@ -67,11 +61,6 @@ LoanFits l = fits l ≡ true
 abbrev SnapFits : Snap → Type 0
 SnapFits snap = fits_snap snap ≡ true
 
-both_true : (a b : Bool) → (a && b) ≡ true → (a ≡ true) × (b ≡ true)
-both_true true true is = (refl, refl)
-both_true true false is = absurd (true≢false (sym is))
-both_true false b is = absurd (true≢false (sym is))
-
 first_or_rest : (b : Bool) (l : Loan) (rest : Option Loan) → LoanFits l → IfSome rest LoanFits → IfSome (if b then Some l else rest) LoanFits
 first_or_rest true l rest first others = first
 first_or_rest false l rest first others = others
@@ -79,7 +68,7 @@ first_or_rest false l rest first others = others
 loan_fits : (loans : List (ℕ × Loan)) (h : ℕ) → all_fit loans ≡ true → IfSome (loan_of loans h) LoanFits
 loan_fits [] h is = tt
 loan_fits (pair ∷ loans) h is =
-    let both = both_true (fits pair.1) (all_fit loans) is in first_or_rest (pair.0 == h) pair.1 (loan_of loans h) both.0 (loan_fits loans h both.1)
+    let both = both_of (fits pair.1) (all_fit loans) is in first_or_rest (pair.0 == h) pair.1 (loan_of loans h) both.0 (loan_fits loans h both.1)
 
 snap_fits : SubjectsFit → (e : Exporter) (l : Option Loan) → IsSoundExporter e → IfSome l LoanFits → IfSome (snap_in e (given_loan l)) SnapFits
 snap_fits fit e None sound is = tt
@@ -102,9 +91,6 @@ lents_fit fit e loans (h ∷ handles) sound is =
 
 -- ---- the source
 
-abbrev there : Snap → Option Snap
-there snap = Some snap
-
 checked : (b : Bool) (snap source : Snap) → (unless b fault.Kind >>= λ _. Ok snap) ≡ Ok source → snap ≡ source
 checked true snap source is = absurd (cc)
 checked false snap source is = cc
@@ -112,14 +98,6 @@ checked false snap source is = cc
 from_lent : (h : ℕ) (s : Option Subject) (o : Option Snap) (source : Snap) → lent_source (lent_as h s o ++ []) ≡ Ok source → o ≡ Some source
 from_lent h s None source is = absurd (cc)
 from_lent h s (Some snap) source is = ap there (checked (is_iterator snap.kind) snap source is)
-
-given_snap : (e : Exporter) (l : Option Loan) → snap_in e (given_loan l) ≡ snap_in e l
-given_snap e None = refl
-given_snap e (Some loan.Own) = refl
-given_snap e (Some (loan.View k)) = refl
-given_snap e (Some (loan.Iter k)) = refl
-given_snap e (Some (loan.Other snap)) = refl
-given_snap e (Some loan.Missing) = refl
 
 okay_source : (snap source : Snap) → (let done : Result Snap Fault = Ok snap in done) ≡ Ok source → snap ≡ source
 okay_source snap source is = cc
@@ -140,9 +118,6 @@ source_is e loans (value.Slices parts) source is = absurd (cc)
 
 -- ---- its items
 
-same_there : (snap source : Snap) → there snap ≡ Some source → snap ≡ source
-same_there snap source is = cc
-
 byte_of_whole : (bytes : List ℕ) (j : ℕ) → bytes_at bytes 1 (j * 1) ≡ bytes_at bytes 1 j
 byte_of_whole bytes j = let one : j * 1 ≡ j = omega arith in ap (bytes_at bytes 1) one
 
@@ -157,7 +132,7 @@ view_items : LiveLayoutsAreSound → ContentsAreWhole → ContentsHoldTheItems �
     → IsSoundExporter e → snap.released ≡ false → j * snap.itemsize < length snap.content → item_of_snap snap j ≡ item_of_subject e (subject.View k) j
 view_items live whole hold e k None snap j given is sound unreleased below = absurd (cc)
 view_items live whole hold e k (Some v) snap j given is sound unreleased below =
-    let same : snap_of_view e.bytes v ≡ snap = same_there (snap_of_view e.bytes v) snap is in
+    let same : snap_of_view e.bytes v ≡ snap = snap_is_there (snap_of_view e.bytes v) snap is in
     let free : v.released ≡ false = ap (λ (s : Snap). s.released) same ∙ unreleased in
     let lies = (live e k v.layout sound (live_so e k v given free)).inside in
     let shown : snap ≡ snap_of_layout e.bytes v.layout false = sym same ∙ ap (snap_of_layout e.bytes v.layout) free in
@@ -172,12 +147,12 @@ view_items live whole hold e k (Some v) snap j given is sound unreleased below =
 iterator_items : (e : Exporter) (k : ℕ) (o : Option Iterator) (snap : Snap) (j : ℕ) → option_map (λ it. iterator_snap) o ≡ Some snap → j * snap.itemsize < length snap.content → item_of_snap snap j ≡ []
 iterator_items e k None snap j is below = absurd (cc)
 iterator_items e k (Some it) snap j is below =
-    let same : iterator_snap ≡ snap = same_there iterator_snap snap is in
+    let same : iterator_snap ≡ snap = snap_is_there iterator_snap snap is in
     let none : length snap.content ≡ 0 = ap (λ (s : Snap). length s.content) (sym same) in
     absurd (omega (arith, none, below))
 
 pub snaps_hold : LiveLayoutsAreSound → ContentsAreWhole → ContentsHoldTheItems → SnapsHoldTheItems
-snaps_hold live whole hold e subject.Own snap j sound is unreleased below = own_items e snap j (same_there (snap_of_exporter e) snap is)
+snaps_hold live whole hold e subject.Own snap j sound is unreleased below = own_items e snap j (snap_is_there (snap_of_exporter e) snap is)
 snaps_hold live whole hold e (subject.View k) snap j sound is unreleased below = view_items live whole hold e k (slice_get e.views k) snap j refl is sound unreleased below
 snaps_hold live whole hold e (subject.Iter k) snap j sound is unreleased below = iterator_items e k (slice_get e.iterators k) snap j is below
 
@@ -187,12 +162,12 @@ loan_items hold e None source j sound is unreleased below = absurd (cc)
 loan_items hold e (Some loan.Own) source j sound is unreleased below = hold e subject.Own source j sound is unreleased below
 loan_items hold e (Some (loan.View k)) source j sound is unreleased below = hold e (subject.View k) source j sound is unreleased below
 loan_items hold e (Some (loan.Iter k)) source j sound is unreleased below = hold e (subject.Iter k) source j sound is unreleased below
-loan_items hold e (Some (loan.Other snap)) source j sound is unreleased below = ap (λ (s : Snap). item_of_snap s j) (sym (same_there snap source is))
+loan_items hold e (Some (loan.Other snap)) source j sound is unreleased below = ap (λ (s : Snap). item_of_snap s j) (sym (snap_is_there snap source is))
 loan_items hold e (Some loan.Missing) source j sound is unreleased below = absurd (cc)
 
 source_items : SnapsHoldTheItems → (e : Exporter) (loans : List (ℕ × Loan)) (v : Value) (source : Snap) (j : ℕ) → IsSoundExporter e → source_before e loans v ≡ Some source → source.released ≡ false
     → j * source.itemsize < length source.content → item_of_snap source j ≡ item_before e loans v j
-source_items hold e loans (value.One (scalar.Bytes bytes)) source j sound is unreleased below = own_items (new_exporter kind.Bytes bytes) source j (same_there (snap_of_exporter (new_exporter kind.Bytes bytes)) source is)
+source_items hold e loans (value.One (scalar.Bytes bytes)) source j sound is unreleased below = own_items (new_exporter kind.Bytes bytes) source j (snap_is_there (snap_of_exporter (new_exporter kind.Bytes bytes)) source is)
 source_items hold e loans (value.One (scalar.Handle h)) source j sound is unreleased below = loan_items hold e (loan_of loans h) source j sound is unreleased below
 source_items hold e loans (value.One scalar.None) source j sound is unreleased below = absurd (cc)
 source_items hold e loans (value.One (scalar.Bool b)) source j sound is unreleased below = absurd (cc)
@@ -205,11 +180,6 @@ source_items hold e loans (value.List parts) source j sound is unreleased below 
 source_items hold e loans (value.Slices parts) source j sound is unreleased below = absurd (cc)
 
 -- ---- the law
-
--- Items of a view have at least one byte.
-some_byte : (size : ℕ) (r : Result Format Fault) → is_size_of size r ≡ true → 0 < size
-some_byte size (Ok format) is = ltb-true 0 size (both_true (nat_lt 0 size) (format.size == size) is).0
-some_byte size (Err f) is = absurd (true≢false (sym is))
 
 within : (j n size : ℕ) → 0 < size → j < n → j * size < size * n
 within j n size some below = grind (arith, some, below)
@@ -225,7 +195,7 @@ steps_assign by_value safe fit live hold e new k slice v loans sound loans_fit i
     let named : source_before e loans v ≡ Some made.source = source_is e loans v made.source made.named in
     let layout = made.layout in
     let starts = (slice_of layout made.parts).starts in
-    let some : 0 < layout.itemsize = some_byte layout.itemsize (format_of layout.format) (live e k layout sound made.live).formed.sized in
+    let some : 0 < layout.itemsize = sized_some layout.itemsize (format_of layout.format) (live e k layout sound made.live).formed.sized in
     let size : made.source.itemsize ≡ layout.itemsize = done.same_size in
     let reach : (j : ℕ) → j < length starts → j * made.source.itemsize < length made.source.content = λ j below.
     subst (λ (m : ℕ). j * made.source.itemsize < m) (sym done.as_many) (subst (λ (m : ℕ). j * m < layout.itemsize * length starts) (sym size) (within j (length starts) layout.itemsize some below)) in

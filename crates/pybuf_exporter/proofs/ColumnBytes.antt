@@ -1,9 +1,10 @@
 -- `castf` makes a view whose bytes in column order are those of the old view, and `bytes` replies both.
-use Rattle.std.proofs.Common.{◌≡◌, ◌⊎◌, inl, inr, ℕ, zero, suc, List, [], ◌∷◌, ◌++◌, length, Bool, true, false, ap, ap₂, sym, ◌∙◌, refl, subst, arith}
+use Rattle.std.proofs.Common.{◌≡◌, ◌⊎◌, inl, inr, ℕ, zero, suc, List, [], ◌∷◌, ◌++◌, length, Bool, true, false, ap, ap₂, sym, ◌∙◌, refl, subst}
 use Rattle.std.specs.Prelude.{◌&&◌, ◌||◌, ◌==◌, not, bytes_eq, Option, Some, None, Result, Ok, Err, slice_get, if◌then◌else◌}
 use Rattle.std.specs.Option.{ok_or}
 use Rattle.std.proofs.lemmas.Bool.{eqb-true}
 use Rattle.std.proofs.lemmas.Slice.Eq.{bytes_eq-Decides}
+use Rattle.pybuf_lemmas.proofs.Lists.{empty_if_no_length as no_items}
 use Rattle.pybuf_value.specs.declared.faults.Fault.{Fault}
 use Rattle.pybuf_value.specs.declared.faults.Fault.TheVariants as fault
 use Rattle.pybuf_value.specs.Refusing.{◌>>=◌, unless}
@@ -29,10 +30,6 @@ use Rattle.pybuf_exporter.specs.Laws.{CommandsKeepSound}
 use Rattle.pybuf_exporter.proofs.Iterating.{get-middle}
 
 -- ---- a single order, if items lie one after the other in both
-
-no_items : (starts : List ℕ) → length starts ≡ 0 → starts ≡ []
-no_items [] none = refl
-no_items (s ∷ starts) none = absurd (omega (arith, none))
 
 -- The number of items decides whether they lie so in column order.
 columns_of_some : (starts columns run : List ℕ) (b : Bool) → (length starts == 0) ≡ b → b || bytes_eq columns run ≡ true → (starts ≡ []) ⊎ (columns ≡ run)

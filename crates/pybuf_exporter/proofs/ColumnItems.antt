@@ -8,6 +8,7 @@ use Rattle.std.proofs.lemmas.List.{length-append}
 use Rattle.std.proofs.lemmas.List.FromFn.{length-map-range_with_len, get_or-map-range_with_len}
 use Rattle.std.proofs.lemmas.Nat.{mul-add-lt}
 use Rattle.std.proofs.lemmas.Option.{slice_get-map, slice_get-get_or, slice_get_within, get_or_from_slice_get}
+use Rattle.pybuf_lemmas.proofs.Lists.{get-left}
 use Rattle.pybuf_desc.specs.Layouts.{Layout, product, LiesInside}
 use Rattle.pybuf_desc.specs.Items.{bytes_at, content_of_layout}
 use Rattle.pybuf_desc.specs.ColumnOrder.{number_at, start_at, column_index_lists, column_starts, columns_of, column_content}
@@ -31,11 +32,6 @@ below (n ∷ shape) (index ∷ indices) there =
     subst (λ (k : ℕ). index * product shape + number_at shape indices < k) (mul_comm (product shape) n) (mul-add-lt index (product shape) (number_at shape indices) n there.0 (below shape indices there.1))
 
 -- ---- the number in column order
-
-get-left : {X : Type 0} (xs ys : List X) (k : ℕ) → k < length xs → slice_get (xs ++ ys) k ≡ slice_get xs k
-get-left [] ys k inside = absurd (omega arith)
-get-left (x ∷ xs) ys zero inside = refl
-get-left (x ∷ xs) ys (suc k) inside = get-left xs ys k (omega (arith, inside))
 
 get-right : {X : Type 0} (xs ys : List X) (k : ℕ) → slice_get (xs ++ ys) (length xs + k) ≡ slice_get ys k
 get-right [] ys k = ap (slice_get ys) (let z : 0 + k ≡ k = omega arith in z)

@@ -1,9 +1,10 @@
 -- What holds of every command, by the laws of its effect.
-use Rattle.std.proofs.Common.{◌≡◌, ℕ, ◌+◌, ◌<◌, ◌≤◌, List, [], ◌∷◌, length, get_or, Bool, true, false, true≢false, ap, ap₂, sym, ◌∙◌, refl, subst, arith, inl}
-use Rattle.std.specs.Prelude.{◌==◌, ◌&&◌, nat_lt, slice_get, slice_index, Option, Some, Result, Ok, Err, if◌then◌else◌}
+use Rattle.std.proofs.Common.{◌≡◌, ℕ, ◌<◌, List, [], ◌∷◌, length, get_or, Bool, true, false, true≢false, ap, ap₂, sym, ◌∙◌, refl, subst, arith, inl}
+use Rattle.std.specs.Prelude.{◌==◌, nat_lt, slice_get, slice_index, Option, Some, Result, Ok, Err, if◌then◌else◌}
 use Rattle.std.proofs.lemmas.Option.{slice_get-get_or, slice_get_within}
 use Rattle.std.proofs.lemmas.Bool.{eqb-true}
-use Rattle.std.proofs.lemmas.Grind.{common_steps}
+use Rattle.pybuf_lemmas.proofs.Booleans.{both_of}
+use Rattle.pybuf_desc.specs.Facts.{whole_bytes}
 use Rattle.pybuf_value.specs.declared.faults.Fault.{Fault}
 use Rattle.pybuf_value.specs.declared.faults.Fault.TheVariants as fault
 use Rattle.pybuf_value.specs.declared.halt.Halt.{Halt}
@@ -504,17 +505,10 @@ alike_steps e s v named others alike =
 
 -- ---- items
 
-both_true : (a b : Bool) → (a && b) ≡ true → (a ≡ true) × (b ≡ true)
-both_true true b is = (refl, is)
-both_true false b is = absurd (cc)
-
 -- A format that has a size is in the grammar, and its items have that size.
 spelled_by : (text : List ℕ) (itemsize : ℕ) (r : Result Format Fault) → format_of text ≡ r → is_size_of itemsize r ≡ true → (f : Format) × (format_of text ≡ Ok f) × (f.size ≡ itemsize)
-spelled_by text itemsize (Ok f) is sized = (f, is, eqb-true f.size itemsize (both_true (nat_lt 0 itemsize) (f.size == itemsize) sized).1)
+spelled_by text itemsize (Ok f) is sized = (f, is, eqb-true f.size itemsize (both_of (nat_lt 0 itemsize) (f.size == itemsize) sized).1)
 spelled_by text itemsize (Err g) is sized = absurd (true≢false (sym sized))
-
-whole_bytes : (bytes : List ℕ) (size start : ℕ) → start + size ≤ length bytes → length (bytes_at bytes size start) ≡ size
-whole_bytes bytes size start inside = grind (arith, common_steps, inside)
 
 pub each_item_is_read : LiveLayoutsAreSound → BytesOfTheSizeAreRead → ItemsAreRead
 each_item_is_read live reads e k layout i sound found below =

@@ -1,11 +1,12 @@
 -- An iterator over bytes gives each of them once, and then it stops for ever.
 use Rattle.std.proofs.Common.{◌≡◌, ℕ, zero, suc, ◌+◌, ◌-◌, ◌<◌, ◌≤◌, List, [], ◌∷◌, ◌++◌, length, take, drop, map, Bool, true, false, ap, ap₂, sym, ◌∙◌, refl, arith, take-append-drop, append_assoc}
-use Rattle.std.specs.Prelude.{set, replicate, Option, Some, None, Ok, slice_get, nat_lt}
+use Rattle.std.specs.Prelude.{replicate, Option, Some, None, Ok, slice_get, nat_lt}
 use Rattle.std.specs.Option.{ok_or, option_map}
 use Rattle.std.proofs.lemmas.Grind.{common_steps}
 use Rattle.std.proofs.lemmas.Bool.{ltb-true, ltb-false}
 use Rattle.std.proofs.lemmas.Option.{slice_get_past}
 use Rattle.std.proofs.Math.ListN.{drop_of_length-le}
+use Rattle.pybuf_lemmas.proofs.Lists.{element_after_set}
 use Rattle.pybuf_value.specs.declared.faults.Fault.TheVariants as fault
 use Rattle.pybuf_value.specs.declared.values.Item.{Item}
 use Rattle.pybuf_value.specs.Refusing.{◌>>=◌}
@@ -25,11 +26,6 @@ use Rattle.pybuf_exporter.specs.Laws.{nexts, IteratorsGiveTheBytes}
 pub get-middle : {X : Type 0} (before : List X) (x : X) (after : List X) → slice_get (before ++ x ∷ after) (length before) ≡ Some x
 get-middle [] x after = refl
 get-middle (y ∷ before) x after = get-middle before x after
-
-pub get-set : {X : Type 0} (xs : List X) (k : ℕ) (x y : X) → slice_get xs k ≡ Some x → slice_get (set xs k y) k ≡ Some y
-get-set [] k x y given = absurd (cc)
-get-set (z ∷ xs) zero x y given = refl
-get-set (z ∷ xs) (suc k) x y given = get-set xs k x y given
 
 -- ---- one `next`
 
@@ -63,7 +59,7 @@ ends (suc more) e k it given own goes past =
     let ended : Iterator = record it { exhausted = true } in
     ap (λ (after : Exporter × LocalReply). after.1 ∷ nexts after.0 k more)
     (next_over_bytes e k it None given own goes (ap (option_map byte_item) (slice_get_past e.bytes it.position past)))
-    ∙ ap (λ (rest : List LocalReply). reply.Stop ∷ rest) (stops more (iterator_put e k ended) k ended (get-set e.iterators k it ended given) refl)
+    ∙ ap (λ (rest : List LocalReply). reply.Stop ∷ rest) (stops more (iterator_put e k ended) k ended (element_after_set e.iterators k it ended given) refl)
 
 abbrev item_reply : ℕ → LocalReply
 item_reply b = reply.Item (byte_item b)
@@ -81,7 +77,7 @@ gives (b ∷ rest) before e k it more n count bytes at given own goes =
     ap (nexts e k) one_more
     ∙ ap (λ (after : Exporter × LocalReply). after.1 ∷ nexts after.0 k left) (next_over_bytes e k it (Some (byte_item b)) given own goes (ap (option_map byte_item) found))
     ∙ ap (λ (replies : List LocalReply). item_reply b ∷ replies)
-    (gives rest (before ++ b ∷ []) (iterator_put e k moved) k moved more left refl (bytes ∙ sym (append_assoc before (b ∷ []) rest)) (grind (arith, common_steps, at)) (get-set e.iterators k it moved given) own goes)
+    (gives rest (before ++ b ∷ []) (iterator_put e k moved) k moved more left refl (bytes ∙ sym (append_assoc before (b ∷ []) rest)) (grind (arith, common_steps, at)) (element_after_set e.iterators k it moved given) own goes)
 
 -- If the position is past the end, no byte is given.
 by_place : (e : Exporter) (k : ℕ) (it : Iterator) (more : ℕ) (b : Bool) → nat_lt (length e.bytes) it.position ≡ b → slice_get e.iterators k ≡ Some it → it.subject ≡ subject.Own → it.exhausted ≡ false

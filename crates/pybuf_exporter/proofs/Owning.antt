@@ -1,10 +1,12 @@
 -- What has changed if a reply owns memory, effect by effect.
-use Rattle.std.proofs.Common.{◌≡◌, ◌⊎◌, inl, inr, ℕ, List, [], ◌∷◌, Bool, true, false, true≢false, ap, sym, refl, arith, zero, suc, ◌+◌, set, subst, length}
+use Rattle.std.proofs.Common.{◌≡◌, ◌⊎◌, inl, inr, ℕ, List, [], ◌∷◌, Bool, true, false, true≢false, ap, refl, arith, zero, suc, ◌+◌, set, subst, length}
 use Rattle.std.specs.Prelude.{◌*◌, ◌^◌, ◌==◌, not, reverse, Option, Some, None, Result, Ok, Err, slice_get, nat_lt, if◌then◌else◌}
 use Rattle.std.specs.List.{position_or_len}
-use Rattle.std.specs.Option.{ok_or}
 use Rattle.std.proofs.lemmas.List.{length-set}
 use Rattle.std.proofs.lemmas.Option.{slice_get_within}
+use Rattle.pybuf_lemmas.proofs.Booleans.{false_is_not_true}
+use Rattle.pybuf_lemmas.proofs.Lists.{set_to_itself}
+use Rattle.pybuf_state.specs.Facts.{iterator_given}
 use Rattle.pybuf_value.specs.declared.faults.Fault.{Fault}
 use Rattle.pybuf_value.specs.declared.faults.Fault.TheVariants as fault
 use Rattle.pybuf_value.specs.declared.values.Item.{Item}
@@ -85,10 +87,6 @@ chosen : (e : Exporter) (b : Bool) (r s : Result (Exporter × LocalReply) Fault)
 chosen e true r s this that = this
 chosen e false r s this that = that
 
--- The reply owns no memory.
-no : {A : Type 0} → false ≡ true → A
-no is = absurd (true≢false (sym is))
-
 -- ---- effects of an exporter itself
 
 own_byte : (e : Exporter) (key : Value) → IfDone (IsPlainOrSame e) (byte_of_own e key)
@@ -102,11 +100,11 @@ own_part e (value.List parts) = own_byte e (value.List parts)
 own_part e (value.Slices slices) = own_byte e (value.Slices slices)
 
 own_written : (e : Exporter) (key v : Value) → IfDone (IsPlainOrSame e) (set_of_own e key v)
-own_written e key v = in_byte_array e e.kind (byte_set e key v) (bind e (index_in key) _ (λ index. bind e (byte_in v) _ (λ byte. bind e (entry_in (length e.bytes) index) _ (λ place is. no is))))
+own_written e key v = in_byte_array e e.kind (byte_set e key v) (bind e (index_in key) _ (λ index. bind e (byte_in v) _ (λ byte. bind e (entry_in (length e.bytes) index) _ (λ place is. false_is_not_true is))))
 
 -- If both checks pass, there are other bytes.
 own_laid : (e : Exporter) (asked stepped : Result Bool Fault) (bytes : List ℕ) → IfDone (IsPlainOrSame e) (asked >>= λ _. stepped >>= λ _. Ok (with_bytes e bytes))
-own_laid e asked stepped bytes = bind e asked _ (λ _. bind e stepped _ (λ _ is. no is))
+own_laid e asked stepped bytes = bind e asked _ (λ _. bind e stepped _ (λ _ is. false_is_not_true is))
 
 own_assigned : (e : Exporter) (slice : PySlice) (v : Value) (lents : List Lent) → IfDone (IsPlainOrSame e) (assign_of_own e slice v lents)
 own_assigned e slice v lents = in_byte_array e e.kind (slice_set e slice v lents) (bind e (saturated_parts_of slice) _ (λ parts. bind e (bytes_in (snaps_of lents) v) _ (λ bytes. own_laid e _ _ _)))
@@ -121,13 +119,13 @@ own_set e (value.Slices slices) v lents = own_written e (value.Slices slices) v
 own_repeated : (e : Exporter) (n : ℕ) → IfDone (IsPlainOrSame e) (repeated_unless_empty e n)
 own_repeated e n =
     chosen e (length e.bytes == 0) (Ok (e, reply.Ok)) (repeated e n) (λ is. refl)
-    (bind e (resizable e) _ (λ _. bind e (unless (not (nat_lt (length e.bytes * n) (2 ^ 63))) fault.Overflow) _ (λ _ is. no is)))
+    (bind e (resizable e) _ (λ _. bind e (unless (not (nat_lt (length e.bytes * n) (2 ^ 63))) fault.Overflow) _ (λ _ is. false_is_not_true is)))
 
 own_byte_deleted : (e : Exporter) (key : Value) → IfDone (IsPlainOrSame e) (byte_deleted e key)
-own_byte_deleted e key = bind e (index_in key) _ (λ index. bind e (resizable e) _ (λ _. bind e (entry_in (length e.bytes) index) _ (λ place is. no is)))
+own_byte_deleted e key = bind e (index_in key) _ (λ index. bind e (resizable e) _ (λ _. bind e (entry_in (length e.bytes) index) _ (λ place is. false_is_not_true is)))
 
 own_deleted : (e : Exporter) (key : Value) → IfDone (IsPlainOrSame e) (deleted e key)
-own_deleted e (value.Slice slice) = bind e (saturated_parts_of slice) _ (λ parts. bind e (resizable e) _ (λ _ is. no is))
+own_deleted e (value.Slice slice) = bind e (saturated_parts_of slice) _ (λ parts. bind e (resizable e) _ (λ _ is. false_is_not_true is))
 own_deleted e (value.One s) = own_byte_deleted e (value.One s)
 own_deleted e (value.Tuple parts) = own_byte_deleted e (value.Tuple parts)
 own_deleted e (value.List parts) = own_byte_deleted e (value.List parts)
@@ -149,8 +147,8 @@ own_property e name.CContiguous = tt
 own_property e name.FContiguous = tt
 
 own_effect : (e : Exporter) (v : Verb) (lents : List Lent) → hands_over subject.Own v ≡ false → IfDone (IsPlainOrSame e) (effect_on_own e v lents)
-own_effect e verb.View lents other = λ is. no is
-own_effect e (verb.Range from to) lents other = bind e (number_of from) _ (λ first. bind e (number_of to) _ (λ end. bind e (part_between (length e.bytes) first end) _ (λ part is. no is)))
+own_effect e verb.View lents other = λ is. false_is_not_true is
+own_effect e (verb.Range from to) lents other = bind e (number_of from) _ (λ first. bind e (number_of to) _ (λ end. bind e (part_between (length e.bytes) first end) _ (λ part is. false_is_not_true is)))
 own_effect e (verb.Get key) lents other = in_kind e e.kind (part_of_own e key) (own_part e key)
 own_effect e (verb.Set key v) lents other = own_set e key v lents
 own_effect e (verb.ToBytes None) lents other = λ is. refl
@@ -161,32 +159,32 @@ own_effect e (verb.Compare op v) lents other =
     bind e (unless (is_vector e.kind) fault.UnknownName) _ (λ _. bind e (unless (has_no_order_with e.kind op (other_in v lents)) fault.Kind) _ (λ _ is. refl))
 own_effect e verb.Hash lents other = bind e (unless (is_vector e.kind) fault.UnknownName) _ (λ _. bind e (unless (not (holds_readonly e.kind)) fault.Kind) _ (λ _ is. refl))
 own_effect e verb.Repr lents other = bind e (unless (is_vector e.kind) fault.UnknownName) _ (λ _. bind e (fitted (shown_bytes e.kind e.bytes)) _ (λ text is. refl))
-own_effect e verb.Iter lents other = bind e (unless (is_vector e.kind) fault.UnknownName) _ (λ _ is. no is)
+own_effect e verb.Iter lents other = bind e (unless (is_vector e.kind) fault.UnknownName) _ (λ _ is. false_is_not_true is)
 own_effect e (verb.Contains v) lents other = bind e (unless (is_vector e.kind) fault.UnknownName) _ (λ _. bind e (contains_in (snaps_of lents) e.bytes v) _ (λ found is. refl))
 own_effect e (verb.Call call) lents other = bind e (unless (is_vector e.kind) fault.UnknownName) _ (λ _. bind e (method_reply (snaps_of lents) e.bytes call.name call.args) _ (λ given is. refl))
-own_effect e (verb.Append v) lents other = in_byte_array e e.kind (appended e v) (bind e (byte_in v) _ (λ byte. bind e (resizable e) _ (λ _ is. no is)))
+own_effect e (verb.Append v) lents other = in_byte_array e e.kind (appended e v) (bind e (byte_in v) _ (λ byte. bind e (resizable e) _ (λ _ is. false_is_not_true is)))
 own_effect e (verb.Extend v) lents other =
     in_byte_array e e.kind (extended_or_doubled e v lents)
-    (chosen e (is_itself v lents) (repeated_unless_empty e 2) (extended e v lents) (own_repeated e 2) (bind e (bytes_in (snaps_of lents) v) _ (λ bytes. bind e (resizable e) _ (λ _ is. no is))))
+    (chosen e (is_itself v lents) (repeated_unless_empty e 2) (extended e v lents) (own_repeated e 2) (bind e (bytes_in (snaps_of lents) v) _ (λ bytes. bind e (resizable e) _ (λ _ is. false_is_not_true is))))
 own_effect e (verb.Insert index v) lents other =
-    in_byte_array e e.kind (inserted e index v) (bind e (count_in index) _ (λ number. bind e (byte_in v) _ (λ byte. bind e (resizable e) _ (λ _ is. no is))))
+    in_byte_array e e.kind (inserted e index v) (bind e (count_in index) _ (λ number. bind e (byte_in v) _ (λ byte. bind e (resizable e) _ (λ _ is. false_is_not_true is))))
 own_effect e (verb.Pop index) lents other =
-    in_byte_array e e.kind (popped e index) (bind e (count_or_last index) _ (λ number. bind e (resizable e) _ (λ _. bind e (entry_in (length e.bytes) number) _ (λ place is. no is))))
+    in_byte_array e e.kind (popped e index) (bind e (count_or_last index) _ (λ number. bind e (resizable e) _ (λ _. bind e (entry_in (length e.bytes) number) _ (λ place is. false_is_not_true is))))
 own_effect e (verb.Remove v) lents other =
     in_byte_array e e.kind (removed e v)
-    (bind e (byte_in v) _ (λ byte. bind e (resizable e) _ (λ _. bind e (unless (not (nat_lt (position_or_len (λ b. b == byte) e.bytes) (length e.bytes))) fault.Value) _ (λ _ is. no is))))
-own_effect e verb.Clear lents other = in_byte_array e e.kind (cleared e) (bind e (resizable e) _ (λ _ is. no is))
-own_effect e verb.Reverse lents other = in_byte_array e e.kind (Ok (with_bytes e (reverse e.bytes))) (λ is. no is)
+    (bind e (byte_in v) _ (λ byte. bind e (resizable e) _ (λ _. bind e (unless (not (nat_lt (position_or_len (λ b. b == byte) e.bytes) (length e.bytes))) fault.Value) _ (λ _ is. false_is_not_true is))))
+own_effect e verb.Clear lents other = in_byte_array e e.kind (cleared e) (bind e (resizable e) _ (λ _ is. false_is_not_true is))
+own_effect e verb.Reverse lents other = in_byte_array e e.kind (Ok (with_bytes e (reverse e.bytes))) (λ is. false_is_not_true is)
 own_effect e (verb.Del key) lents other = in_byte_array e e.kind (deleted e key) (own_deleted e key)
 own_effect e (verb.IAdd v) lents other =
     in_byte_array e e.kind (added e v lents)
-    (bind e (like_in (snaps_of lents) v) _ (λ bytes. bind e (unless (is_itself v lents) fault.Buffer) _ (λ _. bind e (resizable e) _ (λ _ is. no is))))
+    (bind e (like_in (snaps_of lents) v) _ (λ bytes. bind e (unless (is_itself v lents) fault.Buffer) _ (λ _. bind e (resizable e) _ (λ _ is. false_is_not_true is))))
 own_effect e (verb.IMul count) lents other =
     in_byte_array e e.kind (multiplied e count)
     (bind e (count_in count) _ (λ number. chosen e _ (Ok (e, reply.Ok)) (repeated_unless_empty e (times number)) (λ is. refl) (own_repeated e (times number))))
 own_effect e (verb.Init options) lents other =
     in_byte_array e e.kind (initialized e options lents)
-    (bind e _ _ (λ bytes. bind e (resizable e) _ (λ _ is. no is)))
+    (bind e _ _ (λ bytes. bind e (resizable e) _ (λ _ is. false_is_not_true is)))
 own_effect e verb.Take lents other = absurd (true≢false other)
 own_effect e verb.Copy lents other = in_byte_array e e.kind (Ok (e, reply.Fresh (snap_of_exporter e))) (λ is. refl)
 own_effect e (verb.Cast format shape) lents other = tt
@@ -210,19 +208,19 @@ view_item e k key =
     chosen e (names_itself layout.shape key) (Ok (e, reply.Itself)) (item_of_layout e layout key) (λ is. refl) (bind e (item_of_key layout.shape key) _ (λ item is. refl)))
 
 view_get : (e : Exporter) (k : ℕ) (key : Value) → IfDone (IsPlainOrSame e) (get_of_view e k key)
-view_get e k (value.Slice slice) = bind e (live_layout e k) _ (λ layout. bind e (has_dimensions layout) _ (λ _. bind e (saturated_parts_of slice) _ (λ parts is. no is)))
+view_get e k (value.Slice slice) = bind e (live_layout e k) _ (λ layout. bind e (has_dimensions layout) _ (λ _. bind e (saturated_parts_of slice) _ (λ parts is. false_is_not_true is)))
 view_get e k (value.One s) = view_item e k (value.One s)
 view_get e k (value.Tuple parts) = view_item e k (value.Tuple parts)
 view_get e k (value.List parts) = view_item e k (value.List parts)
 view_get e k (value.Slices slices) = view_item e k (value.Slices slices)
 
 view_written : (e : Exporter) (k : ℕ) (key v : Value) (lents : List Lent) → IfDone (IsPlainOrSame e) (set_of_view e k key v lents)
-view_written e k key v lents = bind e (set_target e k key v) _ (λ target. bind e (piece_by target.0.format (snaps_of lents) v) _ (λ piece is. no is))
+view_written e k key v lents = bind e (set_target e k key v) _ (λ target. bind e (piece_by target.0.format (snaps_of lents) v) _ (λ piece is. false_is_not_true is))
 
 view_assigned : (e : Exporter) (k : ℕ) (slice : PySlice) (v : Value) (lents : List Lent) → IfDone (IsPlainOrSame e) (assign_of_view e k slice v lents)
 view_assigned e k slice v lents =
     bind e (assign_target e k slice v) _ (λ target. bind e (source_in v lents) _ (λ source.
-    bind e (unless source.released fault.Value) _ (λ _. bind e (unless (not (has_form_of target source.format source.itemsize source.shape)) fault.Value) _ (λ _ is. no is))))
+    bind e (unless source.released fault.Value) _ (λ _. bind e (unless (not (has_form_of target source.format source.itemsize source.shape)) fault.Value) _ (λ _ is. false_is_not_true is))))
 
 view_set : (e : Exporter) (k : ℕ) (key v : Value) (lents : List Lent) → IfDone (IsPlainOrSame e) (set_through_view e k key v lents)
 view_set e k (value.Slice slice) v lents = view_assigned e k slice v lents
@@ -232,28 +230,28 @@ view_set e k (value.List parts) v lents = view_written e k (value.List parts) v 
 view_set e k (value.Slices slices) v lents = view_written e k (value.Slices slices) v lents
 
 view_effect : (e : Exporter) (k : ℕ) (v : Verb) (lents : List Lent) → IfDone (IsPlainOrSame e) (effect_on_view e k v lents)
-view_effect e k verb.View lents = bind e (live_layout e k) _ (λ layout is. no is)
+view_effect e k verb.View lents = bind e (live_layout e k) _ (λ layout is. false_is_not_true is)
 view_effect e k (verb.Get key) lents = view_get e k key
 view_effect e k (verb.Set key v) lents = view_set e k key v lents
 view_effect e k (verb.Cast format shape) lents =
-    bind e (live_layout e k) _ (λ layout. bind e (unless (not (is_contiguous_layout layout)) fault.Kind) _ (λ _. bind e (text_in format) _ (λ text. bind e (layout_in_shape layout text shape) _ (λ cast is. no is))))
+    bind e (live_layout e k) _ (λ layout. bind e (unless (not (is_contiguous_layout layout)) fault.Kind) _ (λ _. bind e (text_in format) _ (λ text. bind e (layout_in_shape layout text shape) _ (λ cast is. false_is_not_true is))))
 view_effect e k (verb.CastF format shape) lents =
-    bind e (live_layout e k) _ (λ layout. bind e (unless (not (is_contiguous_layout layout)) fault.Kind) _ (λ _. bind e (text_in format) _ (λ text. bind e (column_layout_in layout text shape) _ (λ cast is. no is))))
+    bind e (live_layout e k) _ (λ layout. bind e (unless (not (is_contiguous_layout layout)) fault.Kind) _ (λ _. bind e (text_in format) _ (λ text. bind e (column_layout_in layout text shape) _ (λ cast is. false_is_not_true is))))
 view_effect e k (verb.ToBytes order) lents = bind e (live_layout e k) _ (λ layout. bind e (is_column_order layout order) _ (λ columns is. refl))
-view_effect e k verb.Release lents = bind e (released_in e k) _ (λ after is. no is)
+view_effect e k verb.Release lents = bind e (released_in e k) _ (λ after is. false_is_not_true is)
 view_effect e k verb.Enter lents = bind e (live_layout e k) _ (λ layout is. refl)
-view_effect e k verb.Exit lents = bind e (released_in e k) _ (λ after is. no is)
+view_effect e k verb.Exit lents = bind e (released_in e k) _ (λ after is. false_is_not_true is)
 view_effect e k verb.ToContiguous lents = bind e (live_layout e k) _ (λ layout is. refl)
 view_effect e k verb.ToList lents = bind e (live_layout e k) _ (λ layout is. refl)
 view_effect e k verb.Len lents = bind e (live_layout e k) _ (λ layout. bind e (has_dimensions layout) _ (λ _ is. refl))
 view_effect e k (verb.Property p) lents =
     bind e (unless (is_exports p) fault.UnknownName) _ (λ _. bind e (live_layout e k) _ (λ layout. bind e (property_of_layout layout p) _ (λ answer is. refl)))
-view_effect e k verb.ToReadonly lents = bind e (live_layout e k) _ (λ layout is. no is)
+view_effect e k verb.ToReadonly lents = bind e (live_layout e k) _ (λ layout is. false_is_not_true is)
 view_effect e k (verb.Del key) lents = bind e (live_layout e k) _ (λ layout. tt)
 view_effect e k (verb.Compare op v) lents = bind e (view_at e k) _ (λ view. bind e (unless (is_order op) fault.Kind) _ (λ _ is. refl))
 view_effect e k verb.Hash lents = bind e (live_layout e k) _ (λ layout. bind e (unless (not layout.readonly) fault.Value) _ (λ _ is. refl))
 view_effect e k verb.Repr lents = bind e (view_at e k) _ (λ view is. refl)
-view_effect e k verb.Iter lents = bind e (live_layout e k) _ (λ layout is. no is)
+view_effect e k verb.Iter lents = bind e (live_layout e k) _ (λ layout is. false_is_not_true is)
 view_effect e k (verb.Hex sep group) lents =
     bind e (live_layout e k) _ (λ layout. bind e (hex_of (snaps_of lents) sep group (content_of_layout e.bytes layout)) _ (λ text is. refl))
 view_effect e k (verb.Range from to) lents = tt
@@ -279,7 +277,7 @@ view_effect e k (verb.Call method) lents = tt
 
 put_so : (e : Exporter) (k : ℕ) (it : Iterator) (state : Value) (b : Bool) → IfDone (IsPlainOrSame e) (put_unless b e k it state)
 put_so e k it state true = λ is. refl
-put_so e k it state false = bind e (number_of state) _ (λ number is. no is)
+put_so e k it state false = bind e (number_of state) _ (λ number is. false_is_not_true is)
 
 iterator_effect : (e : Exporter) (k : ℕ) (v : Verb) → hands_over (subject.Iter k) v ≡ false → IfDone (IsPlainOrSame e) (effect_on_iterator e k v)
 iterator_effect e k verb.Iter other = bind e (iterator_at e k) _ (λ it is. refl)
@@ -359,11 +357,6 @@ set_back [] k x y given = absurd (cc)
 set_back (z ∷ xs) zero x y given = cc (given)
 set_back (z ∷ xs) (suc k) x y given = ap (λ ys. z ∷ ys) (set_back xs k x y given)
 
-set_same : {X : Type 0} (xs : List X) (k : ℕ) (x : X) → slice_get xs k ≡ Some x → set xs k x ≡ xs
-set_same [] k x given = absurd (cc)
-set_same (z ∷ xs) zero x given = cc (given)
-set_same (z ∷ xs) (suc k) x given = ap (λ ys. z ∷ ys) (set_same xs k x given)
-
 within : {X : Type 0} (xs : List X) (k : ℕ) (x : X) → slice_get xs k ≡ Some x → nat_lt k (length xs) ≡ true
 within xs k x given = let below = slice_get_within xs k x given in grind (arith, below)
 
@@ -373,15 +366,11 @@ still_within xs k x y given = let below = slice_get_within xs k x given in let s
 abbrev IsUndone : Exporter → ℕ → Iterator → Exporter × LocalReply → Type 0
 IsUndone e k it after = (nat_lt k (length after.0.iterators) ≡ true) × (iterator_put after.0 k it ≡ e)
 
-given_of : (o : Option Iterator) (it : Iterator) → ok_or o fault.UnknownName ≡ Ok it → o ≡ Some it
-given_of None it found = cc
-given_of (Some other) it found = cc
-
 put_undone : (e : Exporter) (k : ℕ) (it now : Iterator) → slice_get e.iterators k ≡ Some it → IsUndone e k it (iterator_put e k now, reply.Ok)
 put_undone e k it now given = (still_within e.iterators k it now given, ap (λ (its : List Iterator). let all : Exporter = record e { iterators = its } in all) (set_back e.iterators k it now given))
 
 same_undone : (e : Exporter) (k : ℕ) (it : Iterator) → slice_get e.iterators k ≡ Some it → IsUndone e k it (e, reply.Ok)
-same_undone e k it given = (within e.iterators k it given, ap (λ (its : List Iterator). let all : Exporter = record e { iterators = its } in all) (set_same e.iterators k it given))
+same_undone e k it given = (within e.iterators k it given, ap (λ (its : List Iterator). let all : Exporter = record e { iterators = its } in all) (set_to_itself e.iterators k it given))
 
 moved_undone : (e : Exporter) (k : ℕ) (it : Iterator) (x : Option Item) → slice_get e.iterators k ≡ Some it → IsUndone e k it (moved_on e k it x)
 moved_undone e k it (Some x) given = put_undone e k it (record it { position = it.position + 1 }) given
@@ -400,7 +389,7 @@ by_iterator e k it (Ok found) is given = subst (λ (x : Iterator). IsUndone e k 
 by_iterator e k it (Err f) is given = absurd (cc)
 
 pub next_is_undone : NextIsUndone
-next_is_undone e k it loans found = by_iterator e k it (iterator_at e k) found (given_of (slice_get e.iterators k) it found)
+next_is_undone e k it loans found = by_iterator e k it (iterator_at e k) found (iterator_given (slice_get e.iterators k) it found)
 
 no_next : (e : Exporter) (k : ℕ) (f : Fault) (r : Result Iterator Fault) → r ≡ Err f → (settled_answer e (r >>= λ found. next_unless found.exhausted e k found)).0 ≡ e
 no_next e k f (Ok found) is = absurd (cc)

@@ -2,6 +2,8 @@
 use Rattle.std.proofs.Common.{◌≡◌, ◌⊎◌, inl, inr, ℕ, zero, suc, ◌+◌, List, [], ◌∷◌, Bool, true, false, true≢false, ap, sym, ◌∙◌, refl, arith}
 use Rattle.std.specs.Prelude.{not, cond, nat_lt, count_by, slice_get, Some, Result, Ok}
 use Rattle.std.proofs.lemmas.List.Sums.{sum_by-cons}
+use Rattle.pybuf_lemmas.proofs.Numbers.{none_counted}
+use Rattle.pybuf_state.specs.Facts.{no_exports}
 use Rattle.pybuf_value.specs.declared.faults.Fault.{Fault}
 use Rattle.pybuf_value.specs.declared.faults.Fault.TheVariants as fault
 use Rattle.pybuf_value.specs.Refusing.{◌>>=◌}
@@ -12,7 +14,7 @@ use Rattle.pybuf_command.specs.declared.commands.LocalReply.{LocalReply}
 use Rattle.pybuf_command.specs.declared.commands.LocalReply.TheVariants as reply
 use Rattle.pybuf_command.specs.declared.loans.Loan.{Loan}
 use Rattle.pybuf_command.specs.Handles.{handles_of}
-use Rattle.pybuf_state.specs.Exporter.{Exporter, View, is_exported, exports_of, with_view}
+use Rattle.pybuf_state.specs.Exporter.{Exporter, View, is_exported, with_view}
 use Rattle.pybuf_state.specs.Loans.{are_known}
 use Rattle.pybuf_state.specs.Resizing.{has_exports}
 use Rattle.pybuf_verbs_edits.specs.Edits.{is_edit}
@@ -32,10 +34,6 @@ none_count [] all = refl
 none_count (v ∷ views) all =
     sum_by-cons (λ (w : View). cond (is_exported w) 1 0) v views ∙ counted_more v.released (count_by is_exported views) (all 0 v refl) (none_count views (λ k w found. all (suc k) w found))
 
-none_counted : (released : Bool) (n : ℕ) → cond (not released) 1 0 + n ≡ 0 → (released ≡ true) × (n ≡ 0)
-none_counted true n none = (refl, omega (arith, none))
-none_counted false n none = absurd (omega (arith, none))
-
 all_released : (views : List View) → count_by is_exported views ≡ 0 → (k : ℕ) (v : View) → slice_get views k ≡ Some v → v.released ≡ true
 all_released [] none k v found = absurd (cc)
 all_released (w ∷ views) none zero v found =
@@ -45,9 +43,6 @@ all_released (w ∷ views) none zero v found =
 all_released (w ∷ views) none (suc k) v found =
     let first = none_counted w.released (count_by is_exported views) (sym (sum_by-cons (λ (x : View). cond (is_exported x) 1 0) w views) ∙ none) in
     all_released views first.1 k v found
-
-no_exports : (e : Exporter) → has_exports e ≡ false → exports_of e ≡ 0
-no_exports e none = grind (arith, none)
 
 pub dont_count : ReleasedViewsDontCount
 dont_count e = (λ none. all_released e.views (no_exports e none), λ all. ap (λ (n : ℕ). nat_lt 0 n) (none_count e.views all))

@@ -1,10 +1,12 @@
 -- What was never given is refused with `UnknownName`.
-use Rattle.std.proofs.Common.{◌≡◌, ℕ, List, [], ◌∷◌, length, Bool, true, false, true≢false, ap, sym, ◌∙◌, refl, arith}
-use Rattle.std.specs.Prelude.{◌==◌, ◌&&◌, ◌||◌, nat_lt, Option, Some, None, Result, Err, slice_get, if◌then◌else◌}
+use Rattle.std.proofs.Common.{◌≡◌, ℕ, List, [], ◌∷◌, Bool, true, false, true≢false, ap, sym, ◌∙◌, refl}
+use Rattle.std.specs.Prelude.{◌==◌, ◌&&◌, ◌||◌, Option, Some, Result, Err, if◌then◌else◌}
 use Rattle.std.specs.List.{list_any}
 use Rattle.std.specs.Option.{ok_or, option_map}
 use Rattle.std.proofs.lemmas.Bool.{eqb-true}
-use Rattle.std.proofs.lemmas.Option.{slice_get_past}
+use Rattle.pybuf_lemmas.proofs.Booleans.{and_false}
+use Rattle.pybuf_lemmas.proofs.Lists.{nothing_past_the_end}
+use Rattle.pybuf_value.specs.Facts.{first_refuses}
 use Rattle.pybuf_value.specs.declared.faults.Fault.{Fault}
 use Rattle.pybuf_value.specs.declared.faults.Fault.TheVariants as fault
 use Rattle.pybuf_value.specs.declared.snaps.Snap.{Snap}
@@ -34,10 +36,6 @@ use Rattle.pybuf_exporter.specs.Handles.{HasUnknownHandle, UnknownHandlesAreRefu
 
 -- ---- handles
 
-and_false : (b : Bool) → (b && false) ≡ false
-and_false true = refl
-and_false false = refl
-
 -- The unknown handle is the first, or one of the others.
 first_or_later : (e : Exporter) (named : ℕ → Option Loan) (h x : ℕ) (is any all : Bool) → (x == h) ≡ is → (is || any) ≡ true → is_named e (named h) ≡ false → (any ≡ true → all ≡ false) → (is_named e (named x) && all) ≡ false
 first_or_later e named h x true any all same among unknown later = ap (λ (n : ℕ). is_named e (named n) && all) (eqb-true x h same) ∙ ap (λ (b : Bool). b && all) unknown
@@ -56,21 +54,14 @@ unknown_answer e s v named unknown = ap (λ (b : Bool). if b then effect e s v (
 
 -- ---- subjects
 
--- If the first check refuses, so does the chain.
-first_refuses : {A B : Type 0} (r : Result A Fault) (f : A → Result B Fault) (g : Fault) → r ≡ Err g → (r >>= f) ≡ Err g
-first_refuses r f g is = ap (λ s. s >>= f) is
-
-past : {X : Type 0} (xs : List X) (k : ℕ) → nat_lt k (length xs) ≡ false → slice_get xs k ≡ None
-past xs k none = slice_get_past xs k (grind (arith, none))
-
 no_view : (e : Exporter) (k : ℕ) → has_subject e (subject.View k) ≡ false → view_at e k ≡ Err fault.UnknownName
-no_view e k none = ap (λ (o : Option View). ok_or o fault.UnknownName) (past e.views k none)
+no_view e k none = ap (λ (o : Option View). ok_or o fault.UnknownName) (nothing_past_the_end e.views k none)
 
 no_layout : (e : Exporter) (k : ℕ) → view_at e k ≡ Err fault.UnknownName → live_layout e k ≡ Err fault.UnknownName
 no_layout e k none = first_refuses (view_at e k) _ fault.UnknownName none
 
 no_iterator : (e : Exporter) (k : ℕ) → has_subject e (subject.Iter k) ≡ false → iterator_at e k ≡ Err fault.UnknownName
-no_iterator e k none = ap (λ (o : Option Iterator). ok_or o fault.UnknownName) (past e.iterators k none)
+no_iterator e k none = ap (λ (o : Option Iterator). ok_or o fault.UnknownName) (nothing_past_the_end e.iterators k none)
 
 no_item : (e : Exporter) (k : ℕ) (key : Value) → live_layout e k ≡ Err fault.UnknownName → get_of_view e k key ≡ Err fault.UnknownName
 no_item e k (value.Slice slice) none = first_refuses (live_layout e k) _ fault.UnknownName none
@@ -134,7 +125,7 @@ unknown_refused = record {
   names = λ e s v named unknown. ap (settled_answer e) (unknown_answer e s v named unknown);
   loans = λ e s v loans unknown. ap (settled_answer e) (unknown_answer e s v (names_of loans) unknown);
   subjects = λ e s v loans none. ap (settled_answer e) (unknown_subject e s v (names_of loans) none);
-  assigned = λ e lender k j slice none. ap (λ (o : Option View). assign_of_lent e k slice (option_map (snap_of_view lender.bytes) o)) (past lender.views j none);
+  assigned = λ e lender k j slice none. ap (λ (o : Option View). assign_of_lent e k slice (option_map (snap_of_view lender.bytes) o)) (nothing_past_the_end lender.views j none);
 }
 
 pub unlent_refused : UnlentHandlesAreRefused

@@ -9,6 +9,7 @@ use Rattle.std.proofs.lemmas.List.{drop-map}
 use Rattle.std.proofs.lemmas.Simd.{map-map}
 use Rattle.std.proofs.lemmas.Option.{get_or_from_slice_get}
 use Rattle.std.proofs.Math.ListN.{drop_of_length-le}
+use Rattle.pybuf_lemmas.proofs.Lists.{element_after_set}
 use Rattle.pybuf_value.specs.declared.faults.Fault.{Fault}
 use Rattle.pybuf_value.specs.declared.faults.Fault.TheVariants as fault
 use Rattle.pybuf_value.specs.declared.values.Item.{Item}
@@ -28,7 +29,7 @@ use Rattle.pybuf_verbs_iters.specs.Iterators.{item_at, entry_at, item_over, move
 use Rattle.pybuf_exporter.specs.Step.{settled_answer}
 use Rattle.pybuf_exporter.specs.Laws.{nexts}
 use Rattle.pybuf_exporter.specs.Iterating.{IteratorsGiveTheItems, ReleasedViewsAreNotIterated, OtherShapesAreNotIterated, IteratorsStopPastTheEntries, ExhaustedIteratorsStop}
-use Rattle.pybuf_exporter.proofs.Iterating.{get-middle, get-set, after_next, by_iterator, stops}
+use Rattle.pybuf_exporter.proofs.Iterating.{get-middle, after_next, by_iterator, stops}
 
 -- ---- one `next`
 
@@ -82,7 +83,7 @@ ends zero e k n it layout given own goes live past = refl
 ends (suc more) e k n it layout given own goes live past =
     let ended : Iterator = record it { exhausted = true } in
     ap (λ (after : Exporter × LocalReply). after.1 ∷ nexts after.0 k more) (next_over_view e k n it (Ok layout) (Ok None) given own goes live (no_entry e layout it.position past))
-    ∙ ap (λ (rest : List LocalReply). reply.Stop ∷ rest) (stops more (iterator_put e k ended) k ended (get-set e.iterators k it ended given) refl)
+    ∙ ap (λ (rest : List LocalReply). reply.Stop ∷ rest) (stops more (iterator_put e k ended) k ended (element_after_set e.iterators k it ended given) refl)
 
 abbrev item_reply : List ℕ → Layout → ℕ → LocalReply
 item_reply bytes layout start = reply.Item (item_from bytes layout start)
@@ -107,7 +108,7 @@ gives (s ∷ rest) before e k n it layout more m count starts at given own goes 
     (next_over_view e k n it (Ok layout) (Ok (Some (item_from e.bytes layout s))) given own goes live
     (one_entry e layout it.position inside one ∙ ap (λ (i : ℕ). let read : Result (Option Item) Fault = Ok (Some (item_from e.bytes layout i)) in read) start))
     ∙ ap (λ (replies : List LocalReply). item_reply e.bytes layout s ∷ replies)
-    (gives rest (before ++ s ∷ []) (iterator_put e k moved) k n moved layout more left refl (starts ∙ sym (append_assoc before (s ∷ []) rest)) (grind (arith, common_steps, at)) (get-set e.iterators k it moved given) own goes live one entries)
+    (gives rest (before ++ s ∷ []) (iterator_put e k moved) k n moved layout more left refl (starts ∙ sym (append_assoc before (s ∷ []) rest)) (grind (arith, common_steps, at)) (element_after_set e.iterators k it moved given) own goes live one entries)
 
 -- ---- the laws
 

@@ -12,3 +12,4 @@ pub mod Telling
 pub mod Counting
 pub mod Releasing
 pub mod Handles
+pub mod Facts

@@ -1,7 +1,9 @@
 -- Each entry of a legal history is one line, and these are the lines of the whole text.
-use Rattle.std.proofs.Common.{◌≡◌, ℕ, List, [], ◌∷◌, ◌++◌, length, map, Bool, true, false, cond, not, ◌==◌, ◌||◌, refl, ◌∙◌, ap, sym, codes, decimal}
-use Rattle.std.specs.List.{list_any, flat_map, onto_first, AllByRecursion}
+use Rattle.std.proofs.Common.{◌≡◌, ℕ, List, [], ◌∷◌, ◌++◌, length, map, ◌==◌, refl, ◌∙◌, ap, sym, codes, decimal}
+use Rattle.std.specs.List.{list_any, flat_map, AllByRecursion}
 use Rattle.std.proofs.lemmas.List.{append_assoc}
+use Rattle.pybuf_lemmas.proofs.Booleans.{false_if_not_true}
+use Rattle.pybuf_line.specs.Facts.{line_cut, without_last, one_line_both}
 use Rattle.pybuf_value.specs.Spelling.{bytes_text, handle_text}
 use Rattle.pybuf_command.specs.declared.kinds.Subject.{Subject}
 use Rattle.pybuf_command.specs.declared.commands.LocalReply.{LocalReply}
@@ -18,7 +20,7 @@ use Rattle.pybuf_histories.specs.Replies.{local_reply_text}
 use Rattle.pybuf_histories.specs.Commands.{command_text}
 use Rattle.pybuf_histories.specs.Entries.{entry_text, entry_line, last_lines}
 use Rattle.pybuf_histories.specs.Laws.{RepliesOfEntriesAreSingle, AreSpelled, EntriesAreSingle, SharedTextHasItsLines}
-use Rattle.pybuf_histories.proofs.Single.{both, decimal_single, bytes_single, subject_single, command_single}
+use Rattle.pybuf_histories.proofs.Single.{decimal_single, bytes_single, subject_single, command_single}
 
 -- ---- replies
 
@@ -52,20 +54,15 @@ unfolding entry_text
 entry_single law x spelled shows =
     let command = command_text x.command in
     let replied = local_reply_text x.command.subject x.reply in
-    let first = both (decimal x.session) (codes ": ") (decimal_single law x.session) refl in
-    let second = both (decimal x.session ++ codes ": ") command first (command_single law x.command spelled) in
-    let third = both (decimal x.session ++ codes ": " ++ command) (codes " -> ") second refl in
-    both (decimal x.session ++ codes ": " ++ command ++ codes " -> ") replied third (reply_single law x.command.subject x.reply shows)
-
--- A text is one line, by both tests for that.
-not_any : (b : Bool) → not b ≡ true → b ≡ false
-not_any true h = sym h
-not_any false h = refl
+    let first = one_line_both (decimal x.session) (codes ": ") (decimal_single law x.session) refl in
+    let second = one_line_both (decimal x.session ++ codes ": ") command first (command_single law x.command spelled) in
+    let third = one_line_both (decimal x.session ++ codes ": " ++ command) (codes " -> ") second refl in
+    one_line_both (decimal x.session ++ codes ": " ++ command ++ codes " -> ") replied third (reply_single law x.command.subject x.reply shows)
 
 -- What an exporter shows is one line.
 stepped_single : ShownTextsAreOneLine → (e : Exporter) (x : Entry) → x.reply ≡ (step_by e x.command).1 → ShowsSingle x.reply
 stepped_single shown e x same text is =
-    not_any (list_any (λ b. b == 10) text) (shown e x.command.subject x.command.verb x.command.loans text (sym same ∙ is))
+    false_if_not_true (list_any (λ b. b == 10) text) (shown e x.command.subject x.command.verb x.command.loans text (sym same ∙ is))
 
 replies_single_along : RepliesAreSingle handle_text → ShownTextsAreOneLine → (e : Exporter) (entries : List Entry) →
     map (λ x. x.reply) entries ≡ replies_along e entries → AllByRecursion (λ x. IsOneLine (local_reply_text x.command.subject x.reply)) entries
@@ -91,30 +88,6 @@ entries_single law shown k opening entries legal spelled = entries_along law sho
 
 -- ---- the lines of a text
 
-either_first : (a b : Bool) → (a || b) ≡ false → a ≡ false
-either_first true b h = h
-either_first false b h = refl
-
-either_second : (a b : Bool) → (a || b) ≡ false → b ≡ false
-either_second true b h = cc
-either_second false b h = h
-
-byte_on : (b : ℕ) (text : List ℕ) → (b == 10) ≡ false → parts_at 10 (b ∷ text) ≡ onto_first b (parts_at 10 text)
-byte_on b text h = ap (λ cut. cond cut ([] ∷ parts_at 10 text) (onto_first b (parts_at 10 text))) h
-
--- A line ends before another text.
-line_cuts : (line rest : List ℕ) → IsOneLine line → parts_at 10 (line ++ 10 ∷ rest) ≡ line ∷ parts_at 10 rest
-line_cuts [] rest h = refl
-line_cuts (b ∷ line) rest h =
-    byte_on b (line ++ 10 ∷ rest) (either_first (b == 10) (list_any (λ c. c == 10) line) h)
-    ∙ ap (onto_first b) (line_cuts line rest (either_second (b == 10) (list_any (λ c. c == 10) line) h))
-
--- An empty last part is no line.
-without_empty : (all : List (List ℕ)) → without_empty_last (all ++ [] ∷ []) ≡ all
-without_empty [] = refl
-without_empty (line ∷ []) = refl
-without_empty (line ∷ next ∷ more) = ap (λ others. line ∷ others) (without_empty (next ∷ more))
-
 line_before : (line others rest : List ℕ) → ((line ++ 10 ∷ []) ++ others) ++ rest ≡ line ++ 10 ∷ (others ++ rest)
 line_before line others rest = simp append_assoc
 
@@ -123,7 +96,7 @@ entries_cut : (entries : List Entry) (rest : List ℕ) → AllByRecursion (λ x.
 entries_cut [] rest h = refl
 entries_cut (x ∷ entries) rest h =
     ap (parts_at 10) (line_before (entry_text x) (flat_map entry_line entries) rest)
-    ∙ (line_cuts (entry_text x) (flat_map entry_line entries ++ rest) h.0
+    ∙ (line_cut (entry_text x) (flat_map entry_line entries ++ rest) h.0
     ∙ ap (λ others. entry_text x ∷ others) (entries_cut entries rest h.1))
 
 two_lines : (first word text : List ℕ) → ((first ++ 10 ∷ word) ++ text) ++ 10 ∷ [] ≡ first ++ 10 ∷ ((word ++ text) ++ 10 ∷ [])
@@ -136,8 +109,8 @@ last_cut law calls bytes =
     let first = codes "calls " ++ decimal calls in
     let second = codes "bytes " ++ bytes_text bytes in
     ap (parts_at 10) (two_lines first (codes "bytes ") (bytes_text bytes))
-    ∙ (line_cuts first (second ++ 10 ∷ []) (decimal_single law calls)
-    ∙ ap (λ others. first ∷ others) (line_cuts second [] (bytes_single law bytes)))
+    ∙ (line_cut first (second ++ 10 ∷ []) (decimal_single law calls)
+    ∙ ap (λ others. first ∷ others) (line_cut second [] (bytes_single law bytes)))
 
 pub lines_single : RepliesAreSingle handle_text → ShownTextsAreOneLine → SharedTextHasItsLines
 lines_single law shown k opening entries e legal spelled =
@@ -146,4 +119,4 @@ lines_single law shown k opening entries e legal spelled =
     ap without_empty_last (entries_cut entries (last_lines (length entries) e.bytes) single
     ∙ (ap (λ others. map entry_text entries ++ others) (last_cut law (length entries) e.bytes)
     ∙ sym (append_assoc (map entry_text entries) last ([] ∷ []))))
-    ∙ without_empty (map entry_text entries ++ last)
+    ∙ without_last (map entry_text entries ++ last)

@@ -1,18 +1,9 @@
 -- Texts that are put end to end.
-use Rattle.std.proofs.Common.{◌≡◌, ℕ, List, [], ◌∷◌, ◌++◌, Result, Ok, Err, ap, sym}
+use Rattle.std.proofs.Common.{◌≡◌, ℕ, List, [], ◌∷◌, ◌++◌, ap, sym}
 use Rattle.std.proofs.lemmas.List.{append_assoc, append-nil}
 use Rattle.std.specs.List.{flat_map, join_with_byte}
-use Rattle.std.specs.Result.{OnOk}
 use Rattle.pybuf_line.specs.Spellings.{written_parts}
 use Rattle.pybuf_histories.specs.Words.{after_commas, after_blanks}
-
--- What holds if something was done.
-pub on_ok : {T E P Q : Type 0} (r : Result T E) → (P → Q) → OnOk r P → OnOk r Q
-on_ok (Ok value) f h = f h
-on_ok (Err e) f h = tt
-
-pub three_parts : (o o1 o2 o3 a b c : List ℕ) → o1 ≡ o ++ a → o2 ≡ o1 ++ b → o3 ≡ o2 ++ c → o3 ≡ o ++ (a ++ b ++ c)
-three_parts o o1 o2 o3 a b c h1 h2 h3 = rw (h3, h2, h1) (simp append_assoc)
 
 pub five_parts : (o o1 o2 o3 o4 o5 a b c d e : List ℕ) → o1 ≡ o ++ a → o2 ≡ o1 ++ b → o3 ≡ o2 ++ c → o4 ≡ o3 ++ d → o5 ≡ o4 ++ e →
     o5 ≡ o ++ (a ++ b ++ c ++ d ++ e)

@@ -1,9 +1,10 @@
 -- The text of a command has no line feed.
-use Rattle.std.proofs.Common.{◌≡◌, ℕ, ◌/◌, ◌%◌, ◌-◌, ◌^◌, zero, suc, List, [], ◌∷◌, ◌++◌, length, map, slice_index, Bool, true, false, cond, ◌==◌, ◌||◌, Option, Some, None, refl, ◌∙◌, ap, arith, tests, ℤ, codes, decimal}
-use Rattle.std.specs.List.{list_any, list_all, join_with_byte, AllByRecursion}
+use Rattle.std.proofs.Common.{◌≡◌, ℕ, ◌/◌, ◌%◌, ◌-◌, ◌^◌, List, [], ◌∷◌, ◌++◌, length, map, Bool, true, false, cond, ◌==◌, Option, Some, None, refl, arith, tests, ℤ, codes, decimal}
+use Rattle.std.specs.List.{list_all, join_with_byte, AllByRecursion}
 use Rattle.std.specs.Fmt.{signed_decimal}
-use Rattle.std.proofs.lemmas.List.Folds.{list_any-append}
-use Rattle.hex.specs.Hex.{lower_digits, encode_with, encode_lower}
+use Rattle.pybuf_lemmas.proofs.Lists.{hex_digit_is_no_line_end, first_of_all, rest_of_all}
+use Rattle.pybuf_line.specs.Facts.{one_line_both, spelled_part}
+use Rattle.hex.specs.Hex.{encode_with, encode_lower}
 use Rattle.pybuf_value.specs.declared.values.Scalar.{Scalar}
 use Rattle.pybuf_value.specs.declared.values.Scalar.TheVariants as scalar
 use Rattle.pybuf_value.specs.declared.values.PySlice.{PySlice}
@@ -33,12 +34,9 @@ use Rattle.pybuf_line.specs.Methods.{written_method}
 use Rattle.pybuf_line.specs.Scalars.{is_text_byte, is_text, written_scalar}
 use Rattle.pybuf_line.specs.Spellings.{written_slice, written_parts, written_value}
 use Rattle.pybuf_line.specs.Commands.{word_of, values_of, written_values, written_arguments}
-use Rattle.pybuf_line.specs.Laws.{IsOneLine, RepliesAreSingle, IsSpelled, IsSlicePart, IsSpelledSlice, IsSpelledValue, AreSpelledValues, IsSpelledVerb}
+use Rattle.pybuf_line.specs.Laws.{IsOneLine, RepliesAreSingle, IsSpelled, IsSpelledSlice, IsSpelledValue, AreSpelledValues, IsSpelledVerb}
 use Rattle.pybuf_histories.specs.Names.{view_name, iterator_name, subject_text, loan_text, loan_text_if_lent, name_of}
 use Rattle.pybuf_histories.specs.Commands.{command_text}
-
-pub both : (xs ys : List ℕ) → IsOneLine xs → IsOneLine ys → IsOneLine (xs ++ ys)
-both xs ys h k = list_any-append (λ b. b == 10) xs ys ∙ (ap (λ b. b || list_any (λ c. c == 10) ys) h ∙ k)
 
 -- ---- what the line of a reply has, by the law of these lines
 
@@ -53,18 +51,10 @@ number_single law n = law (reply.Item (item.One (scalar.Int n))) (λ text h. cc)
 
 -- ---- digits
 
-byte_single : (xs : List ℕ) (k : ℕ) → IsOneLine xs → (slice_index xs k == 10) ≡ false
-byte_single [] k h = refl
-byte_single (x ∷ xs) zero h = grind (arith, tests)
-byte_single (x ∷ xs) (suc k) h = byte_single xs k (grind (arith, tests))
-
-hex_single : (k : ℕ) → (slice_index lower_digits k == 10) ≡ false
-hex_single k = byte_single lower_digits k refl
-
 pub digits_single : (bytes : List ℕ) → IsOneLine (encode_lower bytes)
 unfolding encode_with
 digits_single [] = refl
-digits_single (b ∷ bytes) = rw (hex_single (b / 16), hex_single (b % 16)) (digits_single bytes)
+digits_single (b ∷ bytes) = rw (hex_digit_is_no_line_end (b / 16), hex_digit_is_no_line_end (b % 16)) (digits_single bytes)
 
 -- ---- names
 
@@ -93,12 +83,6 @@ lent_single law None = refl
 text_byte : (b : ℕ) → is_text_byte b ≡ true → (b == 10) ≡ false
 text_byte b h = grind (arith, tests)
 
-first_of_all : (p : ℕ → Bool) (x : ℕ) (xs : List ℕ) → list_all p (x ∷ xs) ≡ true → p x ≡ true
-first_of_all p x xs h = grind (arith, tests)
-
-rest_of_all : (p : ℕ → Bool) (x : ℕ) (xs : List ℕ) → list_all p (x ∷ xs) ≡ true → list_all p xs ≡ true
-rest_of_all p x xs h = grind (arith, tests)
-
 all_text_bytes : (text : List ℕ) → list_all is_text_byte text ≡ true → IsOneLine text
 all_text_bytes [] h = refl
 all_text_bytes (b ∷ text) h = rw (text_byte b (first_of_all is_text_byte b text h)) (all_text_bytes text (rest_of_all is_text_byte b text h))
@@ -115,45 +99,36 @@ scalar_single law loans scalar.None h = refl
 scalar_single law loans (scalar.Bool true) h = refl
 scalar_single law loans (scalar.Bool false) h = refl
 scalar_single law loans (scalar.Int number) h = number_single law number
-scalar_single law loans (scalar.Text text) h = both text (39 ∷ []) (text_single text h) refl
+scalar_single law loans (scalar.Text text) h = one_line_both text (39 ∷ []) (text_single text h) refl
 scalar_single law loans (scalar.Bytes bytes) h = digits_single bytes
 scalar_single law loans scalar.Ellipsis h = refl
 scalar_single law loans (scalar.Handle handle) h = lent_single law (loan_of loans handle)
 
-part_is_spelled : (s : Scalar) → IsSlicePart s → IsSpelled s
-part_is_spelled (scalar.Text text) h = absurd h
-part_is_spelled scalar.None h = h
-part_is_spelled (scalar.Bool truth) h = h
-part_is_spelled (scalar.Int number) h = h
-part_is_spelled (scalar.Bytes bytes) h = h
-part_is_spelled scalar.Ellipsis h = h
-part_is_spelled (scalar.Handle handle) h = h
-
 slice_single : RepliesAreSingle handle_text → (loans : List (ℕ × Loan)) (s : PySlice) → IsSpelledSlice s → IsOneLine (written_slice (name_of loans) s)
 slice_single law loans s h =
     let written = written_scalar (name_of loans) in
-    both (written s.start) (58 ∷ written s.stop ++ 58 ∷ written s.step) (scalar_single law loans s.start (part_is_spelled s.start h.0))
-    (both (written s.stop) (58 ∷ written s.step) (scalar_single law loans s.stop (part_is_spelled s.stop h.1))
-    (scalar_single law loans s.step (part_is_spelled s.step h.2)))
+    one_line_both (written s.start) (58 ∷ written s.stop ++ 58 ∷ written s.step) (scalar_single law loans s.start (spelled_part s.start h.0))
+    (one_line_both (written s.stop) (58 ∷ written s.step) (scalar_single law loans s.stop (spelled_part s.stop h.1))
+    (scalar_single law loans s.step (spelled_part s.step h.2)))
 
 parts_single : {A : Type 0} (text : A → List ℕ) (P : A → Type 0) → ((a : A) → P a → IsOneLine (text a)) → (all : List A) →
     AllByRecursion P all → IsOneLine (written_parts text all)
 parts_single text P each [] h = refl
 parts_single text P each (a ∷ []) h = each a h.0
 parts_single text P each (a ∷ b ∷ more) h =
-    both (text a) (44 ∷ written_parts text (b ∷ more)) (each a h.0) (parts_single text P each (b ∷ more) h.1)
+    one_line_both (text a) (44 ∷ written_parts text (b ∷ more)) (each a h.0) (parts_single text P each (b ∷ more) h.1)
 
 value_single : RepliesAreSingle handle_text → (loans : List (ℕ × Loan)) (v : Value) → IsSpelledValue v → IsOneLine (written_value (name_of loans) v)
 value_single law loans (value.One one) h = scalar_single law loans one h
 value_single law loans (value.Slice slice) h = slice_single law loans slice h
 value_single law loans (value.Tuple parts) h =
-    both (written_parts (written_scalar (name_of loans)) parts) (41 ∷ [])
+    one_line_both (written_parts (written_scalar (name_of loans)) parts) (41 ∷ [])
     (parts_single (written_scalar (name_of loans)) IsSpelled (scalar_single law loans) parts h) refl
 value_single law loans (value.List parts) h =
-    both (written_parts (written_scalar (name_of loans)) parts) (93 ∷ [])
+    one_line_both (written_parts (written_scalar (name_of loans)) parts) (93 ∷ [])
     (parts_single (written_scalar (name_of loans)) IsSpelled (scalar_single law loans) parts h) refl
 value_single law loans (value.Slices slices) h =
-    both (written_parts (written_slice (name_of loans)) slices) (41 ∷ [])
+    one_line_both (written_parts (written_slice (name_of loans)) slices) (41 ∷ [])
     (parts_single (written_slice (name_of loans)) IsSpelledSlice (slice_single law loans) slices h.1) refl
 
 values_single : RepliesAreSingle handle_text → (loans : List (ℕ × Loan)) (values : List Value) → AllByRecursion IsSpelledValue values →
@@ -204,7 +179,7 @@ arguments_single law loans v h = values_single law loans (values_of v) h
 joined_single : (words : List (List ℕ)) → AllByRecursion IsOneLine words → IsOneLine (join_with_byte 32 words)
 joined_single [] h = refl
 joined_single (word ∷ []) h = h.0
-joined_single (word ∷ next ∷ more) h = both word (32 ∷ join_with_byte 32 (next ∷ more)) h.0 (joined_single (next ∷ more) h.1)
+joined_single (word ∷ next ∷ more) h = one_line_both word (32 ∷ join_with_byte 32 (next ∷ more)) h.0 (joined_single (next ∷ more) h.1)
 
 pub command_single : RepliesAreSingle handle_text → (c : LocalCommand) → IsSpelledVerb c.verb → IsOneLine (command_text c)
 unfolding command_text

@@ -7,11 +7,12 @@ use Rattle.std.proofs.lemmas.Bool.Decides.{nat_tests}
 use Rattle.std.proofs.lemmas.Nat.{div-add-mod', le-div, mul-le}
 use Rattle.std.proofs.lemmas.List.{get_or_default}
 use Rattle.std.proofs.Math.Nat.{suc-mul}
+use Rattle.pybuf_index.specs.Facts.{how_many_none, how_many_some, length-rising}
 use Rattle.pybuf_index.specs.Picks.{adjusted_part, start_of, stop_of, picks, comes_before}
 use Rattle.pybuf_index.specs.Parts.{SliceParts, nearest_word, clamped_part}
 use Rattle.pybuf_index.specs.Runs.{rising, how_many, picks_in_span, span_start, span_end}
 use Rattle.pybuf_index.specs.Laws.{PicksAre, SameWhenClamped, SpanPicksAre, HasSpan}
-use Rattle.pybuf_index.proofs.StepLemmas.{how_many_none, how_many_some, how_many_last, below, below-is, falling, length-rising}
+use Rattle.pybuf_index.proofs.StepLemmas.{how_many_last, below, below-is, falling}
 use Rattle.pybuf_index.proofs.SpanLemmas.{start_up, stop_up, start_down, stop_down, picks_up, picks_down, span_rises, span_falls, nat_abs_above, picks_span, length-falling, length-picks_in_span, run-span, rising_at}
 
 -- ---- clamping

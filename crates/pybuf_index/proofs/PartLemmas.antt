@@ -1,31 +1,14 @@
 -- The parts of a slice, as they are and clamped.
-use Rattle.std.proofs.Common.{◌≡◌, ◌≢◌, ℕ, zero, suc, ◌<◌, ◌^◌, true, false, ℤ, pos, negsuc, sym, refl, ◌∙◌, Option, Result, Ok, Err, arith}
+use Rattle.std.proofs.Common.{◌≡◌, ◌≢◌, ℕ, ◌<◌, ◌^◌, ℤ, pos, sym, refl, ◌∙◌, Option, Result, Ok, Err}
 use Rattle.std.specs.Prelude.{IfOk}
-use Rattle.std.proofs.lemmas.Int.{ints}
+use Rattle.pybuf_index.specs.Facts.{if_ok_step_moves}
 use Rattle.pybuf_value.specs.declared.faults.Fault.{Fault}
-use Rattle.pybuf_value.specs.declared.values.Scalar.{Scalar}
-use Rattle.pybuf_value.specs.declared.values.Scalar.TheVariants as scalar
 use Rattle.pybuf_value.specs.declared.values.PySlice.{PySlice}
 use Rattle.pybuf_value.specs.Refusing.{◌>>=◌}
 use Rattle.pybuf_index.specs.Picks.{start_of, stop_of, steps_to, picks}
-use Rattle.pybuf_index.specs.Parts.{SliceParts, nonzero, step_in, part_in, nearest_word, clamped_part, clamped_parts, saturated_parts_of, picks_of}
+use Rattle.pybuf_index.specs.Parts.{SliceParts, step_in, part_in, nearest_word, clamped_part, clamped_parts, saturated_parts_of, picks_of}
 use Rattle.pybuf_index.specs.Laws.{SameAsItsParts, IndicesAgree}
 use Rattle.pybuf_index.proofs.LawLemmas.{same_when_clamped}
-
-nonzero-is : (z : ℤ) → IfOk (nonzero z) (λ s. s ≢ pos 0)
-nonzero-is (pos zero) = tt
-nonzero-is (pos (suc n)) = λ e. omega (arith, ints, e)
-nonzero-is (negsuc n) = λ e. omega (arith, ints, e)
-
-step_moves : (s : Scalar) → IfOk (step_in s) (λ step. step ≢ pos 0)
-step_moves scalar.None = λ e. omega (arith, ints, e)
-step_moves (scalar.Bool true) = λ e. omega (arith, ints, e)
-step_moves (scalar.Bool false) = tt
-step_moves (scalar.Int n) = nonzero-is n
-step_moves (scalar.Text t) = tt
-step_moves (scalar.Bytes b) = tt
-step_moves scalar.Ellipsis = tt
-step_moves (scalar.Handle h) = tt
 
 abbrev chosen : Result ℤ Fault → Result (Option ℤ) Fault → Result (Option ℤ) Fault → Result SliceParts Fault
 chosen step start stop = step >>= (λ s. start >>= (λ a. stop >>= (λ b. Ok (record { start = a; stop = b; step = s }))))
@@ -37,7 +20,7 @@ same_chosen (Ok s) (Ok a) (Err e) moves = tt
 same_chosen (Ok s) (Ok a) (Ok b) moves = λ n h. same_when_clamped n a b s moves h
 
 pub same_as_its_parts : (slice : PySlice) → IfOk (saturated_parts_of slice) (λ saturated. SameAsItsParts slice saturated)
-same_as_its_parts slice = same_chosen (step_in slice.step) (part_in slice.start) (part_in slice.stop) (step_moves slice.step)
+same_as_its_parts slice = same_chosen (step_in slice.step) (part_in slice.start) (part_in slice.stop) (if_ok_step_moves slice.step)
 
 steps-picks : (n : ℕ) (a b : Option ℤ) (s : ℤ) → steps_to n (start_of n a s) (stop_of n b s) s ≡ picks n a b s
 unfolding picks
@@ -50,10 +33,10 @@ agree_chosen n h (Ok s) (Ok a) (Err e) moves = tt
 agree_chosen n h (Ok s) (Ok a) (Ok b) moves = steps-picks n a b s ∙ sym (same_when_clamped n a b s moves h)
 
 pub indices_agree : (slice : PySlice) (n : ℕ) → IndicesAgree slice n
-indices_agree slice n = λ h. agree_chosen n h (step_in slice.step) (part_in slice.start) (part_in slice.stop) (step_moves slice.step)
+indices_agree slice n = λ h. agree_chosen n h (step_in slice.step) (part_in slice.start) (part_in slice.stop) (if_ok_step_moves slice.step)
 
 pub same_from_parts : (slice : PySlice) (s : ℤ) (a b : Option ℤ) (v : SliceParts) → step_in slice.step ≡ Ok s → part_in slice.start ≡ Ok a → part_in slice.stop ≡ Ok b → v.start ≡ clamped_part a → v.stop ≡ clamped_part b → v.step ≡ nearest_word s → SameAsItsParts slice v
 same_from_parts slice s a b v es ea eb va vb vs =
-    let moves : IfOk (step_in slice.step) (λ step. step ≢ pos 0) = step_moves slice.step in
+    let moves : IfOk (step_in slice.step) (λ step. step ≢ pos 0) = if_ok_step_moves slice.step in
     let nonzero_step : s ≢ pos 0 = rw es at moves in
     rw (es, ea, eb) (λ n h. rw (va, vb, vs) (same_when_clamped n a b s nonzero_step h))

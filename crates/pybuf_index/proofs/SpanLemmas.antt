@@ -1,17 +1,16 @@
 -- A slice's indices lie in its span, and they are a run of numbers.
 use Rattle.std.proofs.Common.{◌≡◌, ◌≢◌, ℕ, zero, suc, ◌+◌, ◌-◌, ◌*◌, ◌/◌, ◌%◌, ◌<◌, ◌≤◌, Bool, true, false, [], ◌∷◌, ◌++◌, length, ℤ, pos, negsuc, refl, ap, sym, ◌∙◌, arith, reverse, inl, inr, Option, None, Some}
-use Rattle.std.specs.Prelude.{◌+ℤ◌, nat_abs, max, int_lt, slice_index}
+use Rattle.std.specs.Prelude.{◌+ℤ◌, nat_abs, max, slice_index}
 use Rattle.std.specs.List.Sorted.{IsStrictlyIncreasing}
 use Rattle.std.proofs.Math.Nat.{suc-mul}
 use Rattle.std.proofs.lemmas.Int.{ints, clamps}
-use Rattle.std.proofs.lemmas.List.{length-reverse}
 use Rattle.std.proofs.lemmas.Nat.{div-add-mod'}
 use Rattle.std.proofs.lemmas.Bool.{cases_lt}
-use Rattle.std.proofs.lemmas.Bool.Decides.{nat_tests}
+use Rattle.pybuf_index.specs.Facts.{how_many_none, how_many_some, length-rising, rising_push, greatest_first}
 use Rattle.pybuf_index.specs.Picks.{adjusted_part, start_of, stop_of, picks, is_negative}
 use Rattle.pybuf_index.specs.Parts.{SliceParts, picks_of}
 use Rattle.pybuf_index.specs.Runs.{rising, run_low, run_of, how_many, picks_in_span, span_start, span_limit, span_end, signed_step}
-use Rattle.pybuf_index.proofs.StepLemmas.{how_many_none, below, below-is, how_many_some, steps_up, steps_down, falling, falling-is, length-rising, rising_push, reverse-rising}
+use Rattle.pybuf_index.proofs.StepLemmas.{below, below-is, steps_up, steps_down, falling, falling-is}
 
 -- a place from 0 to n
 pub record UpTo (n : ℕ) (z : ℤ) : Type 0 where
@@ -188,10 +187,6 @@ run_fits low high step zero moves ordered c =
 run_fits low high step (suc k) moves ordered c =
     let inside = last_in_span low high step (suc k) moves (omega arith) c in omega arith
 
-pub is_negative-lt : (z : ℤ) → int_lt z (pos 0) ≡ is_negative z
-is_negative-lt (pos n) = grind (arith, nat_tests)
-is_negative-lt (negsuc n) = refl
-
 pub run_of_span : (low high : ℕ) (step : ℤ) (count least stride : ℕ) (falls : Bool) → step ≢ pos 0 → count ≡ length (picks_in_span low high step) → least ≡ run_low falls low high stride count → stride ≡ nat_abs step → falls ≡ is_negative step → run_of falls least stride count ≡ picks_in_span low high step
 run_of_span low high step count least stride falls moves c l s f =
     rw (l, s, f) (run-span low high step count moves c)
@@ -214,14 +209,10 @@ stride_fits low high (suc t) count some ordered c =
 
 -- ---- numbers that are taken from a run
 
-pub length-run : (falls : Bool) (low s k : ℕ) → length (run_of falls low s k) ≡ k
-length-run false low s k = length-rising k low s
-length-run true low s k = length-reverse (rising low s k) ∙ length-rising k low s
-
 pub run_top_first : (falls : Bool) (low s k : ℕ) → falls ≡ true → k ≢ 0 → run_of falls low s k ≡ (low + (k - 1) * s) ∷ run_of falls low s (k - 1)
 run_top_first falls low s zero f some = absurd (some refl)
 run_top_first falls low s (suc k) f some =
-    let one : suc k - 1 ≡ k = omega arith in rw (f, one) (reverse-rising k low s)
+    let one : suc k - 1 ≡ k = omega arith in rw (f, one) (greatest_first k low s)
 
 pub run_top_last : (falls : Bool) (low s k : ℕ) → falls ≡ false → k ≢ 0 → run_of falls low s k ≡ run_of falls low s (k - 1) ++ (low + (k - 1) * s) ∷ []
 run_top_last falls low s zero f some = absurd (some refl)

@@ -1,11 +1,11 @@
 -- The steps of the slice rule are runs of numbers that lie one distance apart.
-use Rattle.std.proofs.Common.{◌≡◌, ℕ, zero, suc, ◌+◌, ◌-◌, ◌*◌, ◌/◌, ◌<◌, ◌≤◌, true, false, List, [], ◌∷◌, ◌++◌, length, ℤ, pos, negsuc, refl, ap, sym, ◌∙◌, arith, reverse, inl, inr}
+use Rattle.std.proofs.Common.{◌≡◌, ℕ, zero, suc, ◌+◌, ◌-◌, ◌*◌, ◌/◌, ◌<◌, ◌≤◌, true, false, List, [], ◌∷◌, ℤ, pos, negsuc, refl, ap, sym, ◌∙◌, arith, reverse, inl, inr}
 use Rattle.std.specs.Prelude.{◌+ℤ◌, nat_abs}
 use Rattle.std.proofs.lemmas.Int.{ints}
 use Rattle.std.proofs.lemmas.Bool.{cases_lt}
 use Rattle.std.proofs.lemmas.Bool.Decides.{nat_tests}
-use Rattle.std.proofs.lemmas.List.{reverse-append}
 use Rattle.std.proofs.Math.Nat.{add-div_right, div-eq_of_lt, suc-mul}
+use Rattle.pybuf_index.specs.Facts.{how_many_none, how_many_some, greatest_first}
 use Rattle.pybuf_index.specs.Picks.{steps_to, comes_before}
 use Rattle.pybuf_index.specs.Runs.{rising, how_many}
 
@@ -13,12 +13,6 @@ use Rattle.pybuf_index.specs.Runs.{rising, how_many}
 abbrev pub falling : ℕ → ℕ → ℕ → List ℕ
 falling top stride zero = []
 falling top stride (suc count) = (top - 1) ∷ falling (top - stride) stride count
-
-pub how_many_none : (low high stride : ℕ) → high ≤ low → how_many low high stride ≡ 0
-how_many_none low high stride h = grind (arith, nat_tests)
-
-pub how_many_some : (low high stride : ℕ) → low < high → how_many low high stride ≡ (high - low - 1) / stride + 1
-how_many_some low high stride h = grind (arith, nat_tests)
 
 quotient_step : (x t : ℕ) → (x + suc t) / suc t ≡ x / suc t + 1
 quotient_step x t = add-div_right x (omega arith)
@@ -127,24 +121,6 @@ steps_down (suc m) low high t h =
       | inr over ↦ steps_stop (suc m) (below high) (below low) (negsuc t) (down_past low high t over) ∙ sym (ap (falling high (suc t)) (how_many_none low high (suc t) over))
     ]
 
--- A run grows at its end.
-pub rising_push : (k low s : ℕ) → rising low s (suc k) ≡ rising low s k ++ (low + k * s) ∷ []
-rising_push zero low s = grind arith
-rising_push (suc k) low s =
-    let same : low + s + k * s ≡ low + suc k * s = grind (arith, suc-mul k s) in
-    ap (λ (rest : List ℕ). low ∷ rest) (rising_push k (low + s) s)
-    ∙ ap (λ x. low ∷ (rising (low + s) s k ++ x ∷ [])) same
-
-pub length-rising : (k low s : ℕ) → length (rising low s k) ≡ k
-length-rising zero low s = refl
-length-rising (suc k) low s = ap suc (length-rising k (low + s) s)
-
-pub reverse-push : (xs : List ℕ) (x : ℕ) → reverse (xs ++ x ∷ []) ≡ x ∷ reverse xs
-reverse-push xs x = reverse-append xs (x ∷ [])
-
-pub reverse-rising : (k low s : ℕ) → reverse (rising low s (suc k)) ≡ (low + k * s) ∷ reverse (rising low s k)
-reverse-rising k low s = ap reverse (rising_push k low s) ∙ reverse-push (rising low s k) (low + k * s)
-
 pub falling-is : (k low s top : ℕ) → top ≡ low + k * s + 1 → falling top s (suc k) ≡ reverse (rising low s (suc k))
 falling-is zero low s top h =
     let e : top - 1 ≡ low = omega arith in ap (λ x. x ∷ []) e
@@ -154,4 +130,4 @@ falling-is (suc k) low s top h =
     let rest : top - s ≡ low + k * s + 1 = omega arith in
     ap (λ x. x ∷ falling (top - s) s (suc k)) first
     ∙ ap (λ (ys : List ℕ). (low + suc k * s) ∷ ys) (falling-is k low s (top - s) rest)
-    ∙ sym (reverse-rising (suc k) low s)
+    ∙ sym (greatest_first (suc k) low s)

@@ -7,3 +7,4 @@ pub mod Laws
 pub mod Compared
 pub mod Lanes
 pub mod LaneLaws
+pub mod Facts

@@ -1,9 +1,10 @@
 -- Changes of case, byte by byte.
 use Rattle.std.proofs.Common.{◌≡◌, refl, sym, ap, ◌∙◌, ℕ, ◌+◌, ◌<◌, ◌≤◌, List, [], ◌∷◌, Bool, true, false, cond, not, map, arith}
-use Rattle.std.specs.Prelude.{◌&&◌, ◌||◌, ◌↔◌, IsTrue}
+use Rattle.std.specs.Prelude.{◌||◌, ◌↔◌, IsTrue}
 use Rattle.std.specs.Char.{is_ascii_alphabetic, is_ascii_lowercase, is_ascii_uppercase, to_ascii_lowercase, to_ascii_uppercase}
 use Rattle.std.specs.List.{list_any}
 use Rattle.std.proofs.lemmas.Bool.Decides.{nat_tests}
+use Rattle.pybuf_lemmas.proofs.Booleans.{both_hold, first_of_both, second_of_both}
 use Rattle.pybuf_letters.specs.Classes.{fits_title, fits_title_from, is_title}
 use Rattle.pybuf_letters.specs.Cases.{lower, upper, swapped, swapcase, capitalize, title_byte, title_from, title}
 
@@ -71,23 +72,11 @@ fits-from_stays : (after : Bool) (b : ℕ) → title_byte after b ≡ b → fits
 fits-from_stays true b h = grind (arith, nat_tests)
 fits-from_stays false b h = grind (arith, nat_tests)
 
-both : (x y : Bool) → x ≡ true → y ≡ true → (x && y) ≡ true
-both true y h g = g
-both false y h g = absurd (cc)
-
-first_of : (x y : Bool) → (x && y) ≡ true → x ≡ true
-first_of true y h = refl
-first_of false y h = absurd (cc)
-
-second_of : (x y : Bool) → (x && y) ≡ true → y ≡ true
-second_of true y h = h
-second_of false y h = absurd (cc)
-
 title_from-fits : (after : Bool) (bytes : List ℕ) → fits_title_from after bytes ≡ true → title_from after bytes ≡ bytes
 title_from-fits after [] h = refl
 title_from-fits after (b ∷ rest) h =
-    let first = stays-from_fits after b (first_of (fits_title after b) (fits_title_from (is_ascii_alphabetic b) rest) h) in
-    let later = title_from-fits (is_ascii_alphabetic b) rest (second_of (fits_title after b) (fits_title_from (is_ascii_alphabetic b) rest) h) in
+    let first = stays-from_fits after b (first_of_both (fits_title after b) (fits_title_from (is_ascii_alphabetic b) rest) h) in
+    let later = title_from-fits (is_ascii_alphabetic b) rest (second_of_both (fits_title after b) (fits_title_from (is_ascii_alphabetic b) rest) h) in
     cc
 
 fits-from_title : (after : Bool) (bytes : List ℕ) → title_from after bytes ≡ bytes → fits_title_from after bytes ≡ true
@@ -95,13 +84,13 @@ fits-from_title after [] h = refl
 fits-from_title after (b ∷ rest) h =
     let first : title_byte after b ≡ b = cc in
     let later : title_from (is_ascii_alphabetic b) rest ≡ rest = cc in
-    both (fits_title after b) (fits_title_from (is_ascii_alphabetic b) rest) (fits-from_stays after b first) (fits-from_title (is_ascii_alphabetic b) rest later)
+    both_hold (fits_title after b) (fits_title_from (is_ascii_alphabetic b) rest) (fits-from_stays after b first) (fits-from_title (is_ascii_alphabetic b) rest later)
 
 pub title-stays : (bytes : List ℕ) → IsTrue (is_title bytes) ↔ (IsTrue (list_any is_ascii_alphabetic bytes) × (title bytes ≡ bytes))
 title-stays bytes = (
   λ h. (
-    first_of (list_any is_ascii_alphabetic bytes) (fits_title_from false bytes) h,
-    title_from-fits false bytes (second_of (list_any is_ascii_alphabetic bytes) (fits_title_from false bytes) h),
+    first_of_both (list_any is_ascii_alphabetic bytes) (fits_title_from false bytes) h,
+    title_from-fits false bytes (second_of_both (list_any is_ascii_alphabetic bytes) (fits_title_from false bytes) h),
   ),
-  λ h. both (list_any is_ascii_alphabetic bytes) (fits_title_from false bytes) h.0 (fits-from_title false bytes h.1),
+  λ h. both_hold (list_any is_ascii_alphabetic bytes) (fits_title_from false bytes) h.0 (fits-from_title false bytes h.1),
 )

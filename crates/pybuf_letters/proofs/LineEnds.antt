@@ -6,6 +6,7 @@ use Rattle.std.proofs.lemmas.List.{take-take, length-take, get_or-take, take_res
 use Rattle.std.proofs.lemmas.List.Sums.{position_or_len_is, fails_before_first, passes_at_first, prefix_len-le-length}
 use Rattle.std.proofs.lemmas.Bool.{false≢true}
 use Rattle.std.proofs.lemmas.Bool.Decides.{nat_tests}
+use Rattle.pybuf_lemmas.proofs.Booleans.{first_of_both, second_of_both}
 use Rattle.pybuf_letters.specs.Lines.{is_line_break, begins_with_feed, ends_line, end_length, whole_lines, without_end}
 use Rattle.bstr.specs.Bytes.{is_in}
 use Rattle.bstr.specs.Find.{IsFirstByte}
@@ -52,14 +53,6 @@ other true y f h = h
 other false true f h = absurd (cc)
 other false false f h = refl
 
-both_first : (x y : Bool) → (x && y) ≡ true → x ≡ true
-both_first true y h = refl
-both_first false y h = h
-
-both_second : (x y : Bool) → (x && y) ≡ true → y ≡ true
-both_second true y h = h
-both_second false y h = absurd (cc)
-
 -- ---- the first line
 
 pub record IsLine (bytes : List ℕ) (n : ℕ) : Type 0 where
@@ -71,15 +64,15 @@ lines-cons b rest test h = ap (λ (t : Bool). cond t ((b ∷ []) ∷ whole_lines
 
 -- a carriage return and a line feed
 line-both : (b : ℕ) (rest : List ℕ) → (b == 13 && begins_with_feed rest) ≡ true → IsLine (b ∷ rest) 2
-line-both b [] h = absurd (false≢true (both_second (b == 13) false h))
+line-both b [] h = absurd (false≢true (second_of_both (b == 13) false h))
 line-both b (c ∷ more) h = record {
   line =
       lines-cons b (c ∷ more) false (goes_on (b == 10) (b == 13) (c == 10) h no_feed)
-      ∙ ap (onto_first b) (lines-cons c more true (feed_ends (c == 10) (c == 13) (begins_with_feed more) (both_second (b == 13) (c == 10) h)));
+      ∙ ap (onto_first b) (lines-cons c more true (feed_ends (c == 10) (c == 13) (begins_with_feed more) (second_of_both (b == 13) (c == 10) h)));
 }
   where
     no_feed : (b == 10) ≡ false
-    no_feed = let thirteen : (b == 13) ≡ true = both_first (b == 13) (c == 10) h in grind (arith, nat_tests)
+    no_feed = let thirteen : (b == 13) ≡ true = first_of_both (b == 13) (c == 10) h in grind (arith, nat_tests)
 
     feed_ends : (x y f : Bool) → x ≡ true → (x || y && not f) ≡ true
     feed_ends true y f g = refl

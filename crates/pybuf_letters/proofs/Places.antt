@@ -3,6 +3,7 @@ use Rattle.std.proofs.Common.{◌≡◌, ℕ, ◌+◌, ◌-◌, ◌<◌, ◌≤�
 use Rattle.std.proofs.lemmas.List.{take_rest}
 use Rattle.std.specs.List.{prefix_len, suffix_len}
 use Rattle.std.proofs.lemmas.List.Sums.{prefix_len_is, suffix_len_is}
+use Rattle.pybuf_lemmas.proofs.Booleans.{false_if_not_true}
 use Rattle.bstr.specs.Bytes.{is_in, not_in}
 use Rattle.bstr.specs.Find.{IsFirstByte, IsLastByte}
 use Rattle.pybuf_letters.specs.Strips.{stripped_left, stripped_right}
@@ -15,15 +16,11 @@ true-from_not : (b : Bool) → ¬ (not b ≡ true) → b ≡ true
 true-from_not true h = refl
 true-from_not false h = absurd (h refl)
 
-false-from_not : (b : Bool) → not b ≡ true → b ≡ false
-false-from_not true h = absurd (cc)
-false-from_not false h = refl
-
 passes : {test p : ℕ → Bool} → Denies test p → (b : ℕ) → ¬ (test b ≡ true) → p b ≡ true
 passes {test} {p} d b h = true-from_not (p b) (λ e. h (d.denies b ∙ e))
 
 stops : {test p : ℕ → Bool} → Denies test p → (b : ℕ) → test b ≡ true → p b ≡ false
-stops {test} {p} d b h = false-from_not (p b) (sym (d.denies b) ∙ h)
+stops {test} {p} d b h = false_if_not_true (p b) (sym (d.denies b) ∙ h)
 
 pub prefix_len-from_none : (test p : ℕ → Bool) (bytes : List ℕ) → Denies test p → IsFirstByte test bytes None → prefix_len p bytes ≡ length bytes
 prefix_len-from_none test p bytes d h =

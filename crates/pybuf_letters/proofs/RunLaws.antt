@@ -1,10 +1,11 @@
 -- Laws of runs between blanks.
 use Rattle.std.proofs.Common.{◌≡◌, refl, sym, ap, ◌∙◌, subst, ℕ, zero, suc, ◌+◌, ◌-◌, ◌<◌, ◌≤◌, List, [], ◌∷◌, ◌++◌, Bool, true, false, cond, not, length, take, drop, filter, arith}
-use Rattle.std.specs.Prelude.{◌||◌, ◌==◌}
+use Rattle.std.specs.Prelude.{◌==◌}
 use Rattle.std.specs.List.{All, concat, join_with_byte, list_any, slice_split, position_or_len, prefix_len}
 use Rattle.std.proofs.lemmas.List.{append-nil, take-append-drop}
 use Rattle.std.proofs.lemmas.List.Elements.{All-nil, All-cons, All-head, All-tail, filter-append}
 use Rattle.std.proofs.lemmas.List.Splits.{slice_split_none, slice_split_at}
+use Rattle.pybuf_lemmas.proofs.Booleans.{first_of_neither, second_of_neither}
 use Rattle.pybuf_letters.specs.Classes.{is_blank}
 use Rattle.pybuf_letters.specs.Blanks.{runs, next_run, next_blank, part_if_any, runs_up_to}
 use Rattle.pybuf_letters.specs.Laws.{IsRun, LosesBlanksAlone}
@@ -12,18 +13,10 @@ use Rattle.pybuf_letters.proofs.Runs.{AtRun, kept, at-next_run, runs_up_to-next_
 
 -- ---- runs with a blank between each two
 
-neither_first : (x y : Bool) → (x || y) ≡ false → x ≡ false
-neither_first true y h = absurd (cc)
-neither_first false y h = refl
-
-neither_second : (x y : Bool) → (x || y) ≡ false → y ≡ false
-neither_second true y h = absurd (cc)
-neither_second false y h = h
-
 pub bare-all : (run : List ℕ) → list_any is_blank run ≡ false → All (λ b. is_blank b ≡ false) run
 bare-all [] h = All-nil (λ b. is_blank b ≡ false)
 bare-all (b ∷ rest) h =
-    All-cons (λ b. is_blank b ≡ false) b rest (neither_first (is_blank b) (list_any is_blank rest) h) (bare-all rest (neither_second (is_blank b) (list_any is_blank rest) h))
+    All-cons (λ b. is_blank b ≡ false) b rest (first_of_neither (is_blank b) (list_any is_blank rest) h) (bare-all rest (second_of_neither (is_blank b) (list_any is_blank rest) h))
 
 pub runs-of_joined : (given : List (List ℕ)) → All IsRun given → runs (join_with_byte 32 given) ≡ given
 runs-of_joined [] all = refl

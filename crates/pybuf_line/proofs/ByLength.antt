@@ -1,17 +1,16 @@
 -- A word is looked for among the words of its length, and so is a method.
-use Rattle.std.proofs.Common.{◌≡◌, ◌≢◌, ℕ, List, [], ◌∷◌, length, Bool, true, false, cond, ◌==◌, ◌&&◌, ◌||◌, refl, sym, ◌∙◌, ap, arith, tests}
+use Rattle.std.proofs.Common.{◌≡◌, ◌≢◌, ℕ, List, [], ◌∷◌, length, Bool, true, false, cond, ◌==◌, ◌||◌, refl, sym, ◌∙◌, ap, arith, tests}
 use Rattle.std.specs.Prelude.{Option, Some, None}
 use Rattle.std.specs.Str.{bytes_eq}
 use Rattle.std.specs.List.{find, list_all}
 use Rattle.std.proofs.lemmas.Slice.Eq.{bytes_eq-Decides}
+use Rattle.pybuf_lemmas.proofs.Numbers.{equal_numbers_pass}
+use Rattle.pybuf_lemmas.proofs.Booleans.{both_of}
 use Rattle.pybuf_line.specs.Words.{named_in, written_word, every_word, of_length, words_of_length, word_in}
 use Rattle.pybuf_line.specs.Methods.{written_method, every_method, method_in}
 
 same_length : (text word : List ℕ) → bytes_eq text word ≡ true → length word ≡ length text
 same_length text word h = sym (ap length ((bytes_eq-Decides text word).0 h))
-
-equal : (n m : ℕ) → n ≡ m → (n == m) ≡ true
-equal n m h = grind (arith, tests)
 
 unequal : (n m : ℕ) → m ≢ n → (n == m) ≡ false
 unequal n m h = grind (arith, tests)
@@ -20,7 +19,7 @@ unequal n m h = grind (arith, tests)
 other_length : (passes : Bool) (text word : List ℕ) → bytes_eq text word ≡ passes → (length word == length text) ≡ false → passes ≡ false
 other_length false text word e h = refl
 other_length true text word e h =
-    let yes = equal (length word) (length text) (same_length text word e) in
+    let yes = equal_numbers_pass (length word) (length text) (same_length text word e) in
     let no : ⊥ = cc in
     absurd no
 
@@ -74,15 +73,11 @@ none_left : {A : Type 0} (name : A → List ℕ) (first : A) (more : List A) (n 
     of_length n name more ≡ [] → of_length n name (first ∷ more) ≡ []
 none_left name first more n fits e misses h = ap (λ fits. cond fits (first ∷ of_length n name more) (of_length n name more)) (e ∙ misses) ∙ h
 
-both_hold : (a b : Bool) → (a && b) ≡ true → (a ≡ true) × (b ≡ true)
-both_hold true b h = (refl, h)
-both_hold false b h = let no : ⊥ = cc in absurd no
-
 none_of_lengths : {A : Type 0} (name : A → List ℕ) (table : List A) (n : ℕ) → list_all (λ one. is_length (length (name one))) table ≡ true →
     is_length n ≡ false → of_length n name table ≡ []
 none_of_lengths name [] n all other = refl
 none_of_lengths name (first ∷ more) n all other =
-    let each = both_hold (is_length (length (name first))) (list_all (λ one. is_length (length (name one))) more) all in
+    let each = both_of (is_length (length (name first))) (list_all (λ one. is_length (length (name one))) more) all in
     none_left name first more n (length (name first) == n) refl (other_than (length (name first)) n (length (name first) == n) refl each.0 other)
     (none_of_lengths name more n each.1 other)
 

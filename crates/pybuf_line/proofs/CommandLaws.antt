@@ -1,6 +1,9 @@
 -- A command that was written is read back.
-use Rattle.std.proofs.Common.{◌≡◌, ℕ, ◌<◌, ◌^◌, List, [], ◌∷◌, ◌++◌, map, Bool, true, false, not, cond, ◌==◌, Option, Some, None, refl, ◌∙◌, ap, arith, tests}
+use Rattle.std.proofs.Common.{◌≡◌, ℕ, ◌<◌, ◌^◌, List, [], ◌∷◌, ◌++◌, map, Bool, true, false, cond, Option, Some, None, refl, ◌∙◌, ap, arith, tests}
 use Rattle.std.specs.List.{join_with_byte, onto_first, list_all, AllByRecursion}
+use Rattle.pybuf_lemmas.proofs.Numbers.{is_unbroken, unbroken_is_no_blank}
+use Rattle.pybuf_lemmas.proofs.Lists.{first_of_all, rest_of_all}
+use Rattle.pybuf_line.specs.Facts.{each_text_byte}
 use Rattle.pybuf_value.specs.declared.values.Scalar.{Scalar}
 use Rattle.pybuf_value.specs.declared.values.Scalar.TheVariants as scalar
 use Rattle.pybuf_value.specs.declared.values.PySlice.{PySlice}
@@ -32,27 +35,13 @@ use Rattle.pybuf_line.specs.Commands.{options_in, verb_alone, verb_of_one, verb_
 use Rattle.pybuf_line.specs.Laws.{IsSpelled, IsSpelledSlice, IsSpelledValue, AreSpelledValues, AreSpelledOptions, IsSpelledCall, IsSpelledVerb, CommandsReadBack}
 use Rattle.pybuf_line.proofs.NameLaws.{kinds_read, operators_read, properties_read, methods_read}
 use Rattle.pybuf_line.proofs.SpellingLaws.{handle_read}
-use Rattle.pybuf_line.proofs.ValueLaws.{is_free, IsFree, part_free, each_text_byte, values_read}
-
--- The byte is no blank.
-abbrev is_unbroken : ℕ → Bool
-is_unbroken b = not (b == 32)
+use Rattle.pybuf_line.proofs.ValueLaws.{is_free, IsFree, part_free, values_read}
 
 abbrev IsUnbroken : List ℕ → Type 0
 IsUnbroken text = list_all is_unbroken text ≡ true
 
--- Blanks cut a line into words.
-no_blank : (x : ℕ) → is_unbroken x ≡ true → (x == 32) ≡ false
-no_blank x h = grind (arith, tests)
-
-first_of_all : (p : ℕ → Bool) (x : ℕ) (xs : List ℕ) → list_all p (x ∷ xs) ≡ true → p x ≡ true
-first_of_all p x xs h = grind (arith, tests)
-
-rest_of_all : (p : ℕ → Bool) (x : ℕ) (xs : List ℕ) → list_all p (x ∷ xs) ≡ true → list_all p xs ≡ true
-rest_of_all p x xs h = grind (arith, tests)
-
 byte_on : (x : ℕ) (text : List ℕ) → is_unbroken x ≡ true → parts_at 32 (x ∷ text) ≡ onto_first x (parts_at 32 text)
-byte_on x text h = ap (λ cut. cond cut ([] ∷ parts_at 32 text) (onto_first x (parts_at 32 text))) (no_blank x h)
+byte_on x text h = ap (λ cut. cond cut ([] ∷ parts_at 32 text) (onto_first x (parts_at 32 text))) (unbroken_is_no_blank x h)
 
 blank_cuts : (a rest : List ℕ) → IsUnbroken a → parts_at 32 (a ++ 32 ∷ rest) ≡ a ∷ parts_at 32 rest
 blank_cuts [] rest h = refl

@@ -1,5 +1,5 @@
 -- The parts between the commas outside quotes, after one more byte.
-use Rattle.std.proofs.Common.{◌≡◌, ◌≢◌, ℕ, ◌+◌, ◌-◌, ◌<◌, ◌≤◌, Bool, true, false, not, cond, ◌==◌, ◌&&◌, List, [], ◌∷◌, ◌++◌, length, take, drop, get_or, refl, sym, ◌∙◌, ap, arith, tests}
+use Rattle.std.proofs.Common.{◌≡◌, ℕ, ◌+◌, ◌-◌, ◌<◌, ◌≤◌, Bool, true, false, not, cond, ◌==◌, ◌&&◌, List, [], ◌∷◌, ◌++◌, length, take, drop, get_or, refl, sym, ◌∙◌, ap, arith, tests}
 use Rattle.std.specs.List.{onto_first}
 use Rattle.std.proofs.lemmas.List.{drop_more}
 use Rattle.pybuf_line.specs.Parts.{parts_from}
@@ -63,6 +63,3 @@ pub same_cuts : (all d d' : List (List ℕ)) (text : List ℕ) (i s s' : ℕ) (q
     all ≡ onto_parts d (take (i - s) (drop s text)) (parts_from q (drop i text)) →
     all ≡ onto_parts d' (take (i - s') (drop s' text)) (parts_from q' (drop i text))
 same_cuts all d d' text i s s' q q' e1 e2 e3 h = cc
-
-pub no_quote : (b : ℕ) → b ≢ 39 → (b == 39) ≡ false
-no_quote b h = grind (arith, tests)

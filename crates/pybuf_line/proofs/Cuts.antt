@@ -2,7 +2,8 @@
 -- begun, and the parts of the rest.
 use Rattle.std.proofs.Common.{◌≡◌, ℕ, ◌+◌, ◌-◌, ◌<◌, ◌≤◌, List, [], ◌∷◌, ◌++◌, length, take, drop, get_or, map, Bor, refl, sym, ◌∙◌, ap, arith}
 use Rattle.std.specs.List.{onto_first}
-use Rattle.std.proofs.lemmas.List.{append_assoc, append-nil, map-append, take_more, get_or-drop, length-drop}
+use Rattle.std.proofs.lemmas.List.{append_assoc, append-nil, map-append}
+use Rattle.pybuf_lemmas.proofs.Lists.{part_grows_by_one}
 
 -- the parts that are done, with the bytes of the part that is begun, in front of the parts of the rest
 abbrev pub onto_parts : List (List ℕ) → List ℕ → List (List ℕ) → List (List ℕ)
@@ -14,17 +15,6 @@ onto_byte : (done : List (List ℕ)) (begun : List ℕ) (b : ℕ) (parts : List 
 onto_byte done begun b [] = refl
 onto_byte done begun b (part ∷ more) = ap (λ first. done ++ first ∷ more) (sym (append_assoc begun (b ∷ []) part))
 
--- the bytes of the part that is begun, with one more
-begun_more : (text : List ℕ) (start i : ℕ) → start ≤ i → i < length text →
-    take (i + 1 - start) (drop start text) ≡ take (i - start) (drop start text) ++ get_or text i 0 ∷ []
-begun_more text start i within here =
-    let inside : i - start < length (drop start text) = omega (arith, length-drop start text) in
-    let more = take_more (drop start text) (i - start) 0 inside in
-    let n : i + 1 - start ≡ i - start + 1 = omega arith in
-    let m : start + (i - start) ≡ i = omega arith in
-    ap (λ k. take k (drop start text)) n
-    ∙ (more ∙ ap (λ b. take (i - start) (drop start text) ++ b ∷ []) (get_or-drop start text (i - start) 0 ∙ ap (λ k. get_or text k 0) m))
-
 -- The byte goes to the part that is begun.
 pub byte_on : (all done : List (List ℕ)) (text : List ℕ) (start i : ℕ) (parts rest : List (List ℕ)) → start ≤ i → i < length text →
     all ≡ onto_parts done (take (i - start) (drop start text)) parts → parts ≡ onto_first (get_or text i 0) rest →
@@ -33,7 +23,7 @@ byte_on all done text start i parts rest within here h cuts =
     h
     ∙ (ap (onto_parts done (take (i - start) (drop start text))) cuts
     ∙ (onto_byte done (take (i - start) (drop start text)) (get_or text i 0) rest
-    ∙ ap (λ l. onto_parts done l rest) (sym (begun_more text start i within here))))
+    ∙ ap (λ l. onto_parts done l rest) (sym (part_grows_by_one text start i within here))))
 
 onto_next : (done : List (List ℕ)) (begun : List ℕ) (parts : List (List ℕ)) (first : List ℕ) (more : List (List ℕ)) → parts ≡ first ∷ more →
     onto_parts done begun ([] ∷ parts) ≡ onto_parts (done ++ begun ∷ []) [] parts

@@ -1,18 +1,15 @@
 -- A text that is cut at the first separator that a search finds, and the first line of an input.
-use Rattle.std.proofs.Common.{◌≡◌, ℕ, ◌+◌, ◌-◌, ◌<◌, ◌≤◌, Bool, true, false, ◌==◌, List, [], ◌∷◌, length, take, drop, get_or, refl, sym, ◌∙◌, ap, arith, tests}
+use Rattle.std.proofs.Common.{◌≡◌, ℕ, ◌+◌, ◌-◌, ◌<◌, ◌≤◌, false, ◌==◌, List, [], ◌∷◌, length, take, drop, get_or, refl, sym, ◌∙◌, ap, arith, tests}
 use Rattle.std.specs.List.{position_or_len, slice_split}
 use Rattle.std.proofs.lemmas.List.Splits.{slice_split_first, slice_split_none}
 use Rattle.std.proofs.lemmas.List.Sums.{position_or_len_is}
 use Rattle.std.proofs.lemmas.List.{get_or_default, take_rest, drop_all}
 use Rattle.bstr.specs.Find.{IsFirstByte, is_byte}
 use Rattle.std.specs.Prelude.{Some, None}
+use Rattle.pybuf_lemmas.proofs.Booleans.{false_if_untrue}
 use Rattle.pybuf_line.specs.Parts.{parts_at}
 use Rattle.pybuf_line.specs.Lines.{lines, without_empty_last}
 use Rattle.pybuf_line.proofs.Colons.{some_part}
-
-is_false : (b : Bool) → ¬ (b ≡ true) → b ≡ false
-is_false true h = absurd (h refl)
-is_false false h = refl
 
 -- If there is a separator, the parts are cut at the first one.
 pub cut_there : (separator at : ℕ) (text : List ℕ) → IsFirstByte (is_byte separator) text (Some at) →
@@ -21,14 +18,14 @@ cut_there separator at text h =
     let high = h.0.high in
     let same : position_or_len (is_byte separator) text ≡ at =
     position_or_len_is (is_byte separator) text at 0 (omega arith)
-    (λ k less. is_false (get_or text k 0 == separator) (h.0.before k (omega arith) less)) (λ less. h.1) in
+    (λ k less. false_if_untrue (get_or text k 0 == separator) (h.0.before k (omega arith) less)) (λ less. h.1) in
     slice_split_first (is_byte separator) text 0 (omega arith) ∙ ap (λ i. take i text ∷ parts_at separator (drop (i + 1) text)) same
 
 -- If there is no separator, the text is the only part.
 pub nowhere : (separator : ℕ) (text : List ℕ) → IsFirstByte (is_byte separator) text None → parts_at separator text ≡ text ∷ []
 nowhere separator text h =
     slice_split_none (is_byte separator) text
-    (λ k d here. ap (is_byte separator) (get_or_default text k d 0 here) ∙ is_false (get_or text k 0 == separator) (h k (omega arith) here))
+    (λ k d here. ap (is_byte separator) (get_or_default text k d 0 here) ∙ false_if_untrue (get_or text k 0 == separator) (h k (omega arith) here))
 
 -- A part in front of others stays.
 stays : (part : List ℕ) (parts : List (List ℕ)) (first : List ℕ) (more : List (List ℕ)) → parts ≡ first ∷ more →

@@ -1,8 +1,8 @@
 -- Every entry of the lists of words is read back.
-use Rattle.std.proofs.Common.{◌≡◌, ℕ, List, [], ◌∷◌, Bool, true, false, cond, Option, Some, refl}
-use Rattle.std.specs.List.{find}
+use Rattle.std.proofs.Common.{◌≡◌, ℕ, List, true, false, Some, refl}
 use Rattle.std.specs.Str.{bytes_eq}
 use Rattle.std.proofs.lemmas.Slice.Eq.{bytes_eq-Decides}
+use Rattle.pybuf_lemmas.proofs.Lists.{found_passes}
 use Rattle.pybuf_value.specs.declared.values.CompareOp.{CompareOp}
 use Rattle.pybuf_value.specs.declared.values.CompareOp.TheVariants as op
 use Rattle.pybuf_command.specs.declared.kinds.ExporterKind.{ExporterKind}
@@ -16,16 +16,6 @@ use Rattle.pybuf_line.specs.declared.words.Word.TheVariants as word
 use Rattle.pybuf_line.specs.Words.{named_in, written_word, every_word, word_in, written_kind, every_kind, kind_in, written_operator, every_operator, operator_in, written_name, every_property, property_in}
 use Rattle.pybuf_line.specs.Methods.{written_method, every_method, method_in}
 use Rattle.pybuf_line.specs.Laws.{IsAny, WordsReadBack, KindsReadBack, OperatorsReadBack, PropertiesReadBack, MethodsReadBack}
-
--- What is found passes the test.
-found_by : {A : Type 0} (p : A → Bool) (first : A) (others : Option A) (found : A) (passes : Bool) → p first ≡ passes →
-    (others ≡ Some found → p found ≡ true) → cond passes (Some first) others ≡ Some found → p found ≡ true
-found_by p first others found true e later h = cc
-found_by p first others found false e later h = later h
-
-found_passes : {A : Type 0} (p : A → Bool) (table : List A) (found : A) → find p table ≡ Some found → p found ≡ true
-found_passes p [] found h = cc
-found_passes p (first ∷ more) found h = found_by p first (find p more) found (p first) refl (found_passes p more found) h
 
 named_is : {A : Type 0} (name : A → List ℕ) (table : List A) (text : List ℕ) (found : A) → named_in name table text ≡ Some found → text ≡ name found
 named_is name table text found h =

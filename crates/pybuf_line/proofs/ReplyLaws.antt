@@ -1,9 +1,11 @@
 -- The text of a reply is one line.
-use Rattle.std.proofs.Common.{◌≡◌, ℕ, ◌/◌, ◌%◌, zero, suc, List, [], ◌∷◌, ◌++◌, slice_index, Bool, true, false, cond, ◌==◌, ◌||◌, ◌&&◌, not, codes, refl, ◌∙◌, ap, arith, tests, ℤ, pos, negsuc}
+use Rattle.std.proofs.Common.{◌≡◌, ℕ, ◌/◌, ◌%◌, zero, suc, List, [], ◌∷◌, ◌++◌, Bool, true, false, cond, ◌==◌, ◌||◌, codes, refl, ◌∙◌, ap, arith, tests, ℤ, pos, negsuc}
 use Rattle.std.specs.List.{flat_map, list_any}
 use Rattle.std.specs.Fmt.{signed_decimal, digits, digits_onto, digit_glyph, decimal}
-use Rattle.std.proofs.lemmas.List.Folds.{list_any-append}
-use Rattle.hex.specs.Hex.{lower_digits}
+use Rattle.pybuf_lemmas.proofs.Numbers.{digit_is_no_line_end}
+use Rattle.pybuf_lemmas.proofs.Lists.{hex_digit_is_no_line_end}
+use Rattle.pybuf_line.specs.Facts.{one_line_both}
+use Rattle.pybuf_value.specs.Facts.{quote_of_is_no_line_end}
 use Rattle.pybuf_value.specs.Names.{python_name_of}
 use Rattle.pybuf_value.specs.declared.faults.Fault.{Fault}
 use Rattle.pybuf_value.specs.declared.faults.Fault.TheVariants as fault
@@ -17,17 +19,11 @@ use Rattle.pybuf_value.specs.Spelling.{bytes_text, truth_text, handle_text, scal
 use Rattle.pybuf_command.specs.Shown.{blocks, nested_text}
 use Rattle.pybuf_line.specs.Laws.{IsOneLine, ShowsOneLine, RepliesAreSingle, NamesStaySingle}
 
-both : (xs ys : List ℕ) → IsOneLine xs → IsOneLine ys → IsOneLine (xs ++ ys)
-both xs ys h k = list_any-append (λ b. b == 10) xs ys ∙ (ap (λ b. b || list_any (λ c. c == 10) ys) h ∙ k)
-
-glyph_single : (d : ℕ) → (digit_glyph false d == 10) ≡ false
-glyph_single d = grind (arith, tests)
-
 digits_step : (k n : ℕ) (last : Bool) (acc : List ℕ) → IsOneLine acc → ((m : ℕ) (more : List ℕ) → IsOneLine more → IsOneLine (digits_onto k 10 false m more)) →
     IsOneLine (cond last (digit_glyph false (n % 10) ∷ acc) (digits_onto k 10 false (n / 10) (digit_glyph false (n % 10) ∷ acc)))
-digits_step k n true acc h others = ap (λ b. b || list_any (λ c. c == 10) acc) (glyph_single (n % 10)) ∙ h
+digits_step k n true acc h others = ap (λ b. b || list_any (λ c. c == 10) acc) (digit_is_no_line_end (n % 10)) ∙ h
 digits_step k n false acc h others =
-    others (n / 10) (digit_glyph false (n % 10) ∷ acc) (ap (λ b. b || list_any (λ c. c == 10) acc) (glyph_single (n % 10)) ∙ h)
+    others (n / 10) (digit_glyph false (n % 10) ∷ acc) (ap (λ b. b || list_any (λ c. c == 10) acc) (digit_is_no_line_end (n % 10)) ∙ h)
 
 digits_single : (k n : ℕ) (acc : List ℕ) → IsOneLine acc → IsOneLine (digits_onto k 10 false n acc)
 digits_single zero n acc h = h
@@ -37,34 +33,18 @@ decimal_single : (n : ℕ) → IsOneLine (decimal n)
 unfolding digits
 decimal_single n = digits_single 64 n [] refl
 
--- a byte of a text of one line, or 0 past its end
-byte_single : (xs : List ℕ) (k : ℕ) → IsOneLine xs → (slice_index xs k == 10) ≡ false
-byte_single [] k h = refl
-byte_single (x ∷ xs) zero h = grind (arith, tests)
-byte_single (x ∷ xs) (suc k) h = byte_single xs k (grind (arith, tests))
-
-hex_single : (k : ℕ) → (slice_index lower_digits k == 10) ≡ false
-hex_single k = byte_single lower_digits k refl
-
 escaped_single : (q b : ℕ) → (q == 10) ≡ false → IsOneLine (escaped_byte q b)
-escaped_single q b h = grind (arith, tests, hex_single (b / 16), hex_single (b % 16))
+escaped_single q b h = grind (arith, tests, hex_digit_is_no_line_end (b / 16), hex_digit_is_no_line_end (b % 16))
 
 all_escaped_single : (q : ℕ) (bytes : List ℕ) → (q == 10) ≡ false → IsOneLine (flat_map (escaped_byte q) bytes)
 all_escaped_single q [] h = refl
-all_escaped_single q (b ∷ bytes) h = both (escaped_byte q b) (flat_map (escaped_byte q) bytes) (escaped_single q b h) (all_escaped_single q bytes h)
-
-quote_by : (double : Bool) → (cond double 34 39 == 10) ≡ false
-quote_by true = refl
-quote_by false = refl
-
-quote_single : (bytes : List ℕ) → (quote_of bytes == 10) ≡ false
-quote_single bytes = quote_by (list_any (λ b. b == 39) bytes && not (list_any (λ b. b == 34) bytes))
+all_escaped_single q (b ∷ bytes) h = one_line_both (escaped_byte q b) (flat_map (escaped_byte q) bytes) (escaped_single q b h) (all_escaped_single q bytes h)
 
 quoted_single : (bytes : List ℕ) → IsOneLine (quoted_text bytes)
 quoted_single bytes =
     let q = quote_of bytes in
-    let one : (q == 10) ≡ false = quote_single bytes in
-    both (q ∷ flat_map (escaped_byte q) bytes) (q ∷ [])
+    let one : (q == 10) ≡ false = quote_of_is_no_line_end bytes in
+    one_line_both (q ∷ flat_map (escaped_byte q) bytes) (q ∷ [])
     (ap (λ b. b || list_any (λ c. c == 10) (flat_map (escaped_byte q) bytes)) one ∙ all_escaped_single q bytes one)
     (ap (λ b. b || false) one)
 
@@ -88,14 +68,14 @@ scalar_single name single (scalar.Handle handle) = single handle
 parts_single : {A : Type 0} (text : A → List ℕ) → ((part : A) → IsOneLine (text part)) → (parts : List A) → IsOneLine (flat_map (next_part_text text) parts)
 parts_single text single [] = refl
 parts_single text single (part ∷ more) =
-    both (next_part_text text part) (flat_map (next_part_text text) more) (single part) (parts_single text single more)
+    one_line_both (next_part_text text part) (flat_map (next_part_text text) more) (single part) (parts_single text single more)
 
 tuple_single : {A : Type 0} (text : A → List ℕ) → ((part : A) → IsOneLine (text part)) → (parts : List A) → IsOneLine (tuple_text text parts)
 tuple_single text single [] = refl
-tuple_single text single (part ∷ []) = both (text part) (codes ",)") (single part) refl
+tuple_single text single (part ∷ []) = one_line_both (text part) (codes ",)") (single part) refl
 tuple_single text single (part ∷ next ∷ more) =
-    both (text part ++ flat_map (next_part_text text) (next ∷ more)) (codes ")")
-    (both (text part) (flat_map (next_part_text text) (next ∷ more)) (single part) (parts_single text single (next ∷ more))) refl
+    one_line_both (text part ++ flat_map (next_part_text text) (next ∷ more)) (codes ")")
+    (one_line_both (text part) (flat_map (next_part_text text) (next ∷ more)) (single part) (parts_single text single (next ∷ more))) refl
 
 item_single : (name : ℕ → List ℕ) → ((n : ℕ) → IsOneLine (name n)) → (i : Item) → IsOneLine (item_text name i)
 item_single name single (item.One part) = scalar_single name single part
@@ -104,8 +84,8 @@ item_single name single (item.Many parts) = tuple_single (scalar_text name) (sca
 list_single : {A : Type 0} (text : A → List ℕ) → ((part : A) → IsOneLine (text part)) → (parts : List A) → IsOneLine (list_text text parts)
 list_single text single [] = refl
 list_single text single (part ∷ more) =
-    both (text part ++ flat_map (next_part_text text) more) (codes "]")
-    (both (text part) (flat_map (next_part_text text) more) (single part) (parts_single text single more)) refl
+    one_line_both (text part ++ flat_map (next_part_text text) more) (codes "]")
+    (one_line_both (text part) (flat_map (next_part_text text) more) (single part) (parts_single text single more)) refl
 
 nested_single : {A : Type 0} (text : A → List ℕ) → ((part : A) → IsOneLine (text part)) → (shape : List ℕ) (items : List A) →
     IsOneLine (nested_text text shape items)
@@ -122,7 +102,7 @@ pub reply_single : NamesStaySingle
 reply_single name single reply.Ok h = refl
 reply_single name single (reply.Handle handle) h = single handle
 reply_single name single (reply.Pair exporter view) h =
-    both (name exporter) (32 ∷ name view) (single exporter) (single view)
+    one_line_both (name exporter) (32 ∷ name view) (single exporter) (single view)
 reply_single name single (reply.Items shape items) h = nested_single (item_text name) (item_single name single) shape items
 reply_single name single (reply.Item shown) h = item_single name single shown
 reply_single name single (reply.Bytes bytes) h = quoted_single bytes

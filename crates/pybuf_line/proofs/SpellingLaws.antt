@@ -1,20 +1,21 @@
 -- The laws of parts and of values without parts.
 use Rattle.std.proofs.Common.{◌≡◌, ℕ, ◌+◌, ◌-◌, ◌^◌, ◌<◌, suc, ℤ, pos, negsuc, List, [], ◌∷◌, ◌++◌, length, take, drop, Bool, true, false, not, cond, ◌==◌, ◌&&◌, Some, None, refl, sym, ◌∙◌, ap, arith, tests, decimal}
-use Rattle.std.specs.List.{join_with_byte, onto_first, list_all, AllByRecursion}
-use Rattle.std.specs.Char.{is_ascii_digit, digit_value}
+use Rattle.std.specs.List.{join_with_byte, onto_first, AllByRecursion}
+use Rattle.std.specs.Char.{is_ascii_digit}
 use Rattle.std.specs.Str.{bytes_eq}
 use Rattle.std.specs.Str.Parse.{digits_value, AllDigits}
 use Rattle.std.proofs.lemmas.List.{drop_at, take_at, length-append, take-append-drop}
 use Rattle.std.proofs.lemmas.Slice.Eq.{bytes_eq-Decides}
-use Rattle.std.proofs.lemmas.Str.Parse.{digit_from_value}
 use Rattle.std.proofs.lemmas.Fmt.{decimal_is_IsNumeral_wide}
+use Rattle.pybuf_lemmas.proofs.Numbers.{passed_numbers_are_equal, number_equals_itself, value_below_ten_is_digit}
+use Rattle.pybuf_line.specs.Facts.{number_read}
 use Rattle.hex.specs.Hex.{IsBytes, encode_lower}
 use Rattle.hex.proofs.HexLemmas.{decode_of-encode_lower}
 use Rattle.pybuf_value.specs.declared.values.Scalar.{Scalar}
 use Rattle.pybuf_value.specs.declared.values.Scalar.TheVariants as scalar
 use Rattle.pybuf_line.specs.Parts.{parts_from}
 use Rattle.pybuf_value.specs.Spelling.{handle_text}
-use Rattle.pybuf_line.specs.Scalars.{constant_in, is_number, number_below, whole_in, bytes_in, positive_in, before_end, plain_in, scalar_in, written_scalar, handle_in}
+use Rattle.pybuf_line.specs.Scalars.{constant_in, whole_in, bytes_in, positive_in, before_end, plain_in, scalar_in, written_scalar, handle_in}
 use Rattle.pybuf_line.specs.Laws.{PartsJoin, IsOnePart, PartsAreSingle, EnclosedIsBetween, BetweenIsEnclosed, IsSpelled, IsSlicePart, ScalarsReadBack}
 use Rattle.pybuf_line.proofs.Commas.{some_part, quote_cuts, other_cuts}
 
@@ -27,9 +28,6 @@ join_onto b parts first (next ∷ more) e = rw e refl
 join_cut : (parts : List (List ℕ)) (first : List ℕ) (more : List (List ℕ)) → parts ≡ first ∷ more →
     join_with_byte 44 ([] ∷ parts) ≡ 44 ∷ join_with_byte 44 parts
 join_cut parts first more e = rw e refl
-
-pub same_number : (b n : ℕ) → (b == n) ≡ true → b ≡ n
-same_number b n h = grind (arith, tests)
 
 comma_there : (b : ℕ) (quoted : Bool) → (b == 44 && not quoted) ≡ true → b ≡ 44
 comma_there b quoted h = grind (arith, tests)
@@ -73,7 +71,7 @@ single_step : (b : ℕ) (quoted q c : Bool) (rest : List ℕ) → (b == 39) ≡ 
     SingleFrom (not quoted) (parts_from (not quoted) rest) → SingleFrom quoted (parts_from quoted rest) →
     SingleFrom quoted (cond q (onto_first b (parts_from (not quoted) rest)) (cond c ([] ∷ parts_from quoted rest) (onto_first b (parts_from quoted rest))))
 single_step b quoted true c rest q_is c_is turned same =
-    single_onto quoted (not quoted) b (parts_from (not quoted) rest) (λ part. quote_cuts b quoted part (same_number b 39 q_is)) turned
+    single_onto quoted (not quoted) b (parts_from (not quoted) rest) (λ part. quote_cuts b quoted part (passed_numbers_are_equal b 39 q_is)) turned
 single_step b quoted false true rest q_is c_is turned same =
     (sym (ap (λ q. parts_from q []) (outside b quoted c_is)), all_single quoted (parts_from quoted rest) (outside b quoted c_is) same)
 single_step b quoted false false rest q_is c_is turned same =
@@ -102,15 +100,12 @@ enclosed_of : (opening closing first : ℕ) (rest inner : List ℕ) (same : Bool
     cond same (before_end closing rest) None ≡ Some inner → first ∷ rest ≡ opening ∷ inner ++ closing ∷ []
 enclosed_of opening closing first rest inner true e h =
     let end = before_end_of closing rest inner (bytes_eq (drop (length rest - 1) rest) (closing ∷ [])) refl h in
-    ap (λ f. f ∷ rest) (same_number first opening e) ∙ ap (λ l. opening ∷ l) end
+    ap (λ f. f ∷ rest) (passed_numbers_are_equal first opening e) ∙ ap (λ l. opening ∷ l) end
 enclosed_of opening closing first rest inner false e h = cc
 
 pub enclosed_there : EnclosedIsBetween
 enclosed_there opening closing [] inner h = cc
 enclosed_there opening closing (first ∷ rest) inner h = enclosed_of opening closing first rest inner (first == opening) refl h
-
-same_is : (n : ℕ) → (n == n) ≡ true
-same_is n = grind (arith, tests)
 
 itself : (n : ℕ) → bytes_eq (n ∷ []) (n ∷ []) ≡ true
 itself n = grind (arith, tests)
@@ -125,22 +120,7 @@ before_end_read closing inner =
 
 pub enclosed_read : BetweenIsEnclosed
 enclosed_read opening closing inner =
-    ap (λ b. cond b (before_end closing (inner ++ closing ∷ [])) None) (same_is opening) ∙ before_end_read closing inner
-
--- numbers
-digit_test : (c : ℕ) → digit_value c < 10 → is_ascii_digit c ≡ true
-digit_test c h = let r = digit_from_value c h in grind (arith, tests, r)
-
-digits_test : (ds : List ℕ) → AllDigits 10 ds → list_all is_ascii_digit ds ≡ true
-digits_test [] h = refl
-digits_test (c ∷ cs) h = rw (digit_test c h.0, digits_test cs h.1) refl
-
-numeral_test : (ds : List ℕ) → 0 < length ds → AllDigits 10 ds → is_number ds ≡ true
-numeral_test [] h all = absurd (omega arith)
-numeral_test (c ∷ cs) h all = let t = digits_test (c ∷ cs) all in grind (arith, tests, t)
-
-number_read : (bound n : ℕ) (ds : List ℕ) → 0 < length ds → AllDigits 10 ds → digits_value 10 ds ≡ n → n < bound → number_below bound ds ≡ Some n
-number_read bound n ds some all e h = rw (numeral_test ds some all, e) (grind (arith, tests))
+    ap (λ b. cond b (before_end closing (inner ++ closing ∷ [])) None) (number_equals_itself opening) ∙ before_end_read closing inner
 
 no_name : (c : ℕ) (cs : List ℕ) → is_ascii_digit c ≡ true → constant_in (c ∷ cs) ≡ None
 unfolding constant_in
@@ -152,7 +132,7 @@ no_sign c cs h = grind (arith, tests)
 digits_read : (n : ℕ) (ds : List ℕ) → 0 < length ds → AllDigits 10 ds → digits_value 10 ds ≡ n → n < 2 ^ 127 → plain_in handle_in ds ≡ Some (scalar.Int (pos n))
 digits_read n [] some all e h = absurd (omega arith)
 digits_read n (c ∷ cs) some all e h =
-    let d = digit_test c all.0 in
+    let d = value_below_ten_is_digit c all.0 in
     rw (no_name c cs d, no_sign c cs d, number_read (2 ^ 127) n (c ∷ cs) some all e h) refl
 
 signed_read : (n : ℕ) (ds : List ℕ) → 0 < length ds → AllDigits 10 ds → digits_value 10 ds ≡ suc n → n < 2 ^ 127 → plain_in handle_in (45 ∷ ds) ≡ Some (scalar.Int (negsuc n))

@@ -8,6 +8,9 @@ use Rattle.std.proofs.lemmas.List.{append_assoc, append-nil}
 use Rattle.std.proofs.lemmas.List.Sums.{list_all-from_AllPass}
 use Rattle.std.proofs.lemmas.Str.Parse.{digit_from_value}
 use Rattle.std.proofs.lemmas.Fmt.{decimal_is_IsNumeral_wide}
+use Rattle.pybuf_lemmas.proofs.Booleans.{and_not_true, and_false}
+use Rattle.pybuf_lemmas.proofs.Numbers.{passed_numbers_are_equal}
+use Rattle.pybuf_line.specs.Facts.{each_text_byte}
 use Rattle.hex.specs.Hex.{lower_digits, encode_with, encode_lower, decode_of, is_hex_digit}
 use Rattle.hex.specs.declared.error.FromHexError.{FromHexError}
 use Rattle.hex.proofs.HexLemmas.{decode_of-ok}
@@ -22,7 +25,7 @@ use Rattle.pybuf_line.specs.Spellings.{slice_of, slice_in, scalars_in, slices_in
 use Rattle.pybuf_line.specs.Laws.{IsSpelled, IsSlicePart, IsSpelledSlice, ValuesReadBack}
 use Rattle.pybuf_line.proofs.Colons.{some_part as colon_part}
 use Rattle.pybuf_line.proofs.Commas.{some_part, quote_cuts, other_cuts}
-use Rattle.pybuf_line.proofs.SpellingLaws.{same_number, same_bytes, no_number, enclosed_read, part_reads, scalars_read}
+use Rattle.pybuf_line.proofs.SpellingLaws.{same_bytes, no_number, enclosed_read, part_reads, scalars_read}
 
 -- The byte is no colon, no comma, no quote and no blank.
 abbrev pub is_free : ℕ → Bool
@@ -129,19 +132,12 @@ text_first x t h = grind (arith, tests)
 text_rest : (x : ℕ) (t : List ℕ) → list_all is_text_byte (x ∷ t) ≡ true → list_all is_text_byte t ≡ true
 text_rest x t h = grind (arith, tests)
 
-never : (b : Bool) → (b && not true) ≡ false
-never true = refl
-never false = refl
-
 to_quote : (t rest : List ℕ) → list_all is_text_byte t ≡ true →
     parts_from true (t ++ 39 ∷ rest) ≡ onto_front (t ++ 39 ∷ []) (parts_from false rest)
 to_quote [] rest h = quote_cuts 39 true rest refl ∙ one_in_front 39 (parts_from false rest)
 to_quote (x ∷ t) rest h =
-    other_cuts x true (t ++ 39 ∷ rest) (text_first x t h) (never (x == 44))
+    other_cuts x true (t ++ 39 ∷ rest) (text_first x t h) (and_not_true (x == 44))
     ∙ (ap (onto_first x) (to_quote t rest (text_rest x t h)) ∙ byte_in_front x (t ++ 39 ∷ []) (parts_from false rest))
-
-pub each_text_byte : (t : List ℕ) → IsSpelled (scalar.Text t) → list_all is_text_byte t ≡ true
-each_text_byte t h = grind (arith, tests)
 
 text_whole : (t : List ℕ) → list_all is_text_byte t ≡ true → IsWhole (written_scalar handle_text (scalar.Text t))
 text_whole t h rest =
@@ -218,10 +214,6 @@ slices_reads s more h =
 abbrev has_colon : List ℕ → Bool
 has_colon text = list_any (λ b. b == 58) text
 
-and_false : (b : Bool) → (b && false) ≡ false
-and_false true = refl
-and_false false = refl
-
 or_true : (b : Bool) → (b || true) ≡ true
 or_true true = refl
 or_true false = refl
@@ -232,7 +224,7 @@ colon_there (x ∷ a) rest = ap (λ b. (x == 58) || b) (colon_there a rest) ∙ 
 
 colon_step : (p : ℕ → Bool) (x : ℕ) (xs : List ℕ) (same : Bool) → (x == 58) ≡ same → p 58 ≡ false → (same || has_colon xs) ≡ true →
     (has_colon xs ≡ true → list_all p xs ≡ false) → (p x && list_all p xs) ≡ false
-colon_step p x xs true e refused h later = ap (λ b. b && list_all p xs) (ap p (same_number x 58 e) ∙ refused)
+colon_step p x xs true e refused h later = ap (λ b. b && list_all p xs) (ap p (passed_numbers_are_equal x 58 e) ∙ refused)
 colon_step p x xs false e refused h later = ap (λ b. p x && b) (later h) ∙ and_false (p x)
 
 not_all : (p : ℕ → Bool) → p 58 ≡ false → (text : List ℕ) → has_colon text ≡ true → list_all p text ≡ false
@@ -240,7 +232,7 @@ not_all p refused [] h = cc
 not_all p refused (x ∷ xs) h = colon_step p x xs (x == 58) refl refused h (not_all p refused xs)
 
 after_first : (x n : ℕ) (xs : List ℕ) → (x == n) ≡ true → (n == 58) ≡ false → has_colon (x ∷ xs) ≡ true → has_colon xs ≡ true
-after_first x n xs e other h = sym (ap (λ b. b || has_colon xs) (ap (λ y. y == 58) (same_number x n e) ∙ other)) ∙ h
+after_first x n xs e other h = sym (ap (λ b. b || has_colon xs) (ap (λ y. y == 58) (passed_numbers_are_equal x n e) ∙ other)) ∙ h
 
 other_by : (text name : List ℕ) (same : Bool) → bytes_eq text name ≡ same → has_colon text ≡ true → has_colon name ≡ false → same ≡ false
 other_by text name true e h k =

@@ -9,3 +9,4 @@ pub mod Replies
 pub mod Nesting
 pub mod Reading
 pub mod Laws
+pub mod Facts

@@ -1,26 +1,20 @@
 -- Runs of commands, one after the other.
-use Rattle.std.proofs.Common.{◌≡◌, ℕ, zero, suc, ◌+◌, Bool, cond, List, [], ◌∷◌, ◌++◌, length, count_by, refl, sym, ◌∙◌, ap, subst, arith}
+use Rattle.std.proofs.Common.{◌≡◌, ℕ, suc, ◌+◌, Bool, cond, List, [], ◌∷◌, ◌++◌, length, count_by, refl, sym, ◌∙◌, ap, subst, arith}
 use Rattle.std.specs.Prelude.{None}
 use Rattle.std.specs.List.{flat_map, range_with_len}
 use Rattle.std.proofs.lemmas.List.Sums.{sum_by-append}
 use Rattle.std.proofs.lemmas.Grind.{flat_map-append}
 use Rattle.std.proofs.lemmas.List.{length-append, append-nil}
+use Rattle.pybuf_lemmas.proofs.Numbers.{range_with_one_more}
+use Rattle.pybuf_world.specs.Facts.{after_both, replies_of_both}
 use Rattle.pybuf_command.specs.declared.worlds.Command.{Command}
 use Rattle.pybuf_command.specs.declared.worlds.Reply.{Reply}
-use Rattle.pybuf_world.specs.World.{World, empty_world, wstep, world_after_all, replies_of}
+use Rattle.pybuf_world.specs.World.{World, empty_world, world_after_all, replies_of}
 use Rattle.pybuf_make.specs.declared.counting.Counted.{Counted}
 use Rattle.pybuf_command.specs.declared.commands.Verb.TheVariants as verb
 use Rattle.pybuf_make.specs.Script.{new_bytearray, of_first, round}
 use Rattle.pybuf_make.specs.Summary.{is_refusal, told, summary_of, summary}
 use Rattle.pybuf_make.specs.Counting.{HasRun}
-
-after_both : (w : World) (xs ys : List Command) → world_after_all w (xs ++ ys) ≡ world_after_all (world_after_all w xs) ys
-after_both w [] ys = refl
-after_both w (x ∷ xs) ys = after_both (wstep w x).0 xs ys
-
-replies_of_both : (w : World) (xs ys : List Command) → replies_of w (xs ++ ys) ≡ replies_of w xs ++ replies_of (world_after_all w xs) ys
-replies_of_both w [] ys = refl
-replies_of_both w (x ∷ xs) ys = ap (λ rs. (wstep w x).1 ∷ rs) (replies_of_both (wstep w x).0 xs ys)
 
 count_both : (p : Reply → Bool) (xs ys : List Reply) → count_by p (xs ++ ys) ≡ count_by p xs + count_by p ys
 count_both p xs ys = sum_by-append (λ x. cond (p x) 1 0) xs ys
@@ -44,17 +38,13 @@ runs_on a b c xs ys first then = record {
   );
 }
 
-range_more : (a n : ℕ) → range_with_len a (suc n) ≡ range_with_len a n ++ (a + n) ∷ []
-range_more a zero = ap (λ x. x ∷ []) (omega arith)
-range_more a (suc n) = ap (λ rest. a ∷ rest) (range_more (a + 1) n ∙ ap (λ x. range_with_len (a + 1) n ++ x ∷ []) (omega arith))
-
 -- one more round
 rounds_more : (f : ℕ → List Command) (n : ℕ) → flat_map f (range_with_len 0 (n + 1)) ≡ flat_map f (range_with_len 0 n) ++ f n
 rounds_more f n =
     let one : n + 1 ≡ suc n = omega arith in
     let last : 0 + n ≡ n = omega arith in
     ap (λ k. flat_map f (range_with_len 0 k)) one
-    ∙ (ap (flat_map f) (range_more 0 n)
+    ∙ (ap (flat_map f) (range_with_one_more 0 n)
     ∙ (ap (λ k. flat_map f (range_with_len 0 n ++ k ∷ [])) last
     ∙ (flat_map-append f (range_with_len 0 n) (n ∷ []) ∙ ap (λ xs. flat_map f (range_with_len 0 n) ++ xs) (append-nil (f n)))))
 

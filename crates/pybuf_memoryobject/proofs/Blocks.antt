@@ -1,12 +1,12 @@
 -- The blocks of a range are the slice of that range with step 1.
-use Rattle.std.proofs.Common.{◌≡◌, ◌≢◌, ℕ, zero, suc, ◌+◌, ◌-◌, ◌*◌, ◌^◌, ◌<◌, ◌≤◌, ℤ, pos, Bool, true, false, List, [], ◌∷◌, length, ap, ap₂, subst, ◌∙◌, refl, arith}
-use Rattle.std.specs.Prelude.{Some, nat_lt, ◌+ℤ◌, if◌then◌else◌}
-use Rattle.std.specs.List.{range_with_len}
+use Rattle.std.proofs.Common.{◌≡◌, ◌≢◌, ℕ, zero, suc, ◌-◌, ◌*◌, ◌^◌, ◌<◌, ◌≤◌, ℤ, pos, List, [], ◌∷◌, length, ap, subst, ◌∙◌, refl, arith}
+use Rattle.std.specs.Prelude.{Some}
 use Rattle.std.specs.declared.ops.Range.{Range}
-use Rattle.std.proofs.lemmas.Int.{ints, clamps}
-use Rattle.std.proofs.Math.Nat.{mul-pos, le-mul_of_pos_right, mul-le-mul_right}
+use Rattle.std.proofs.lemmas.Int.{ints}
+use Rattle.std.proofs.Math.Nat.{le-mul_of_pos_right, mul-le-mul_right}
 use Rattle.std.proofs.lemmas.List.{length-map}
-use Rattle.pybuf_index.specs.Picks.{start_of, stop_of, steps_to, picks}
+use Rattle.pybuf_index.specs.Facts.{picks_between}
+use Rattle.pybuf_desc.specs.Facts.{positive_extent}
 use Rattle.pybuf_index.specs.Parts.{picks_of}
 use Rattle.pybuf_index.specs.Laws.{EachSlice, SameWhenClamped}
 use Rattle.pybuf_desc.specs.Layouts.{Layout, product}
@@ -21,42 +21,12 @@ use Rattle.pybuf_state.specs.Laws.{IsSoundLayout}
 use Rattle.pybuf_buffer.specs.Blocks.{LiesInFirst}
 use Rattle.pybuf_memoryobject.specs.Blocks.{blocks_of, range_parts}
 
--- ---- the indices
-
-steps_rise : (most s count : ℕ) → count ≤ most → steps_to most (pos s) (pos (s + count)) (pos 1) ≡ range_with_len s count
-steps_rise zero s zero within = refl
-steps_rise zero s (suc count) within = absurd (omega (arith, within))
-steps_rise (suc most) s zero within =
-    let done : nat_lt s (s + 0) ≡ false = grind arith in
-    ap (λ (more : Bool). if more then s ∷ steps_to most (pos s +ℤ pos 1) (pos (s + 0)) (pos 1) else []) done
-steps_rise (suc most) s (suc count) within =
-    let more : nat_lt s (s + suc count) ≡ true = grind arith in
-    let far : s + suc count ≡ s + 1 + count = omega arith in
-    ap (λ (b : Bool). if b then s ∷ steps_to most (pos s +ℤ pos 1) (pos (s + suc count)) (pos 1) else []) more
-    ∙ ap (λ (end : ℕ). s ∷ steps_to most (pos s +ℤ pos 1) (pos end) (pos 1)) far
-    ∙ ap (λ (rest : List ℕ). s ∷ rest) (steps_rise most (s + 1) count (omega (arith, within)))
-
-picks_between : (n start end : ℕ) → start ≤ end → end ≤ n → picks n (Some (pos start)) (Some (pos end)) (pos 1) ≡ range_with_len start (end - start)
-unfolding picks
-picks_between n start end order inside =
-    let first : start_of n (Some (pos start)) (pos 1) ≡ pos start = omega (arith, ints, clamps, order, inside) in
-    let last : stop_of n (Some (pos end)) (pos 1) ≡ pos end = omega (arith, ints, clamps, inside) in
-    let far : end ≡ start + (end - start) = omega (arith, order) in
-    ap₂ (λ (a b : ℤ). steps_to n a b (pos 1)) first last
-    ∙ ap (λ (k : ℕ). steps_to n (pos start) (pos k) (pos 1)) far
-    ∙ steps_rise n start (end - start) (omega (arith, order, inside))
-
 -- ---- the entries fit
-
-some_product : (shape : List ℕ) → 0 < product (nonzero_entries shape)
-some_product [] = omega arith
-some_product (zero ∷ shape) = some_product shape
-some_product (suc n ∷ shape) = mul-pos (omega arith) (some_product shape)
 
 entry_below : (size n : ℕ) (shape : List ℕ) → 0 < size → n ≤ size * product (nonzero_entries (n ∷ shape))
 entry_below size zero shape some = omega arith
 entry_below size (suc n) shape some =
-    let first = le-mul_of_pos_right (suc n) (some_product shape) in
+    let first = le-mul_of_pos_right (suc n) (positive_extent shape) in
     let all = mul-le-mul_right (suc n * product (nonzero_entries shape)) (let one : 1 ≤ size = omega (arith, some) in one) in
     omega (arith, first, all)
 

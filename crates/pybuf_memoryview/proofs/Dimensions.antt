@@ -4,6 +4,7 @@ use Rattle.std.specs.Prelude.{ℤ, pos, map, Some, slice_get, ◌==◌, ◌||◌
 use Rattle.std.specs.List.{list_any}
 use Rattle.std.proofs.lemmas.Bool.{ne_eqb}
 use Rattle.std.proofs.Math.Nat.{le-mul_of_pos_right}
+use Rattle.pybuf_desc.specs.Facts.{positive_extent}
 use Rattle.pybuf_desc.specs.Descriptor.{Descriptor, shape_of}
 use Rattle.pybuf_desc.specs.Layouts.{Layout, product}
 use Rattle.pybuf_desc.specs.Valid.{nonzero_entries, IsPlaced}
@@ -29,15 +30,10 @@ in_range dims item one below =
 
 -- ---- how many entries a dimension has
 
-some_items : (shape : List ℕ) → 0 < product (nonzero_entries shape)
-some_items [] = omega arith
-some_items (zero ∷ shape) = some_items shape
-some_items (suc n ∷ shape) = let rest = some_items shape in grind (arith, rest)
-
 entry_fits : (size most n : ℕ) (shape : List ℕ) → 0 < size → 0 < most → size * product (nonzero_entries (n ∷ shape)) < most → n < most
 entry_fits size most zero shape some more fits = more
 entry_fits size most (suc n) shape some more fits =
-    let rest = some_items shape in
+    let rest = positive_extent shape in
     let one : suc n ≤ suc n * product (nonzero_entries shape) = le-mul_of_pos_right (suc n) rest in
     let all : suc n * product (nonzero_entries shape) ≤ (suc n * product (nonzero_entries shape)) * size = le-mul_of_pos_right (suc n * product (nonzero_entries shape)) some in
     let same : size * (suc n * product (nonzero_entries shape)) ≡ (suc n * product (nonzero_entries shape)) * size = grind arith in

@@ -1,8 +1,9 @@
 -- Items by the indices that name them.
-use Rattle.std.proofs.Common.{◌≡◌, ℕ, suc, ◌+◌, ◌*◌, ◌<◌, List, [], ◌∷◌, length, ap, sym, ◌∙◌, refl, subst, arith}
-use Rattle.std.specs.Prelude.{ℤ, pos, negsuc, ◌+ℤ◌, ◌*ℤ◌, nat_abs, Result, Ok, Err}
-use Rattle.std.proofs.lemmas.Grind.{common_steps}
+use Rattle.std.proofs.Common.{◌≡◌, ℕ, ◌+◌, ◌*◌, List, [], ◌∷◌, length, ap, sym, ◌∙◌, refl, subst, arith}
+use Rattle.std.specs.Prelude.{ℤ, pos, ◌+ℤ◌, ◌*ℤ◌, nat_abs, Result, Ok, Err}
 use Rattle.std.proofs.lemmas.Option.{get_or_from_slice_get}
+use Rattle.pybuf_index.specs.Facts.{entry_below}
+use Rattle.pybuf_desc.specs.Facts.{as_many}
 use Rattle.pybuf_value.specs.declared.faults.Fault.{Fault}
 use Rattle.pybuf_value.specs.Refusing.{◌>>=◌}
 use Rattle.pybuf_index.specs.Places.{entry_in}
@@ -26,10 +27,6 @@ pub record HasEntries (dims : List (ℕ × ℤ × ℤ)) (indices : List ℤ) (of
 abbrev pub MatchEntries : List (ℕ × ℤ × ℤ) → List ℤ → Result ℤ Fault → Type 0
 MatchEntries dims indices (Ok offset) = HasEntries dims indices offset
 MatchEntries dims indices (Err f) = item_at_indices (shape_of dims) indices ≡ Err f
-
-pub entry_below : (count : ℕ) (index : ℤ) (entry : ℕ) → entry_in count index ≡ Ok entry → entry < count
-entry_below count (pos n) entry found = grind (arith, common_steps)
-entry_below count (negsuc n) entry found = grind (arith, common_steps)
 
 -- the number of an item, from its first entry and the number that the other entries give
 abbrev number_with : ℕ → Result ℕ Fault → Result ℕ Fault → Result ℕ Fault
@@ -93,10 +90,6 @@ only_start d start none = only d.dims none
     only : (dims : List (ℕ × ℤ × ℤ)) → length (shape_of dims) ≡ 0 → IsStartOf (layout_at (record d { dims = dims }) start) (Ok 0) start
     only [] none = record { item = 0; named = refl; there = omega arith; starts = refl }
     only (dim ∷ dims) none = absurd (omega (arith, none))
-
-pub as_many : (dims : List (ℕ × ℤ × ℤ)) → length (shape_of dims) ≡ length dims
-as_many [] = refl
-as_many (dim ∷ dims) = ap suc (as_many dims)
 
 -- there are as many indices as the view has dimensions
 pub one_each : (d : Descriptor) (start : ℕ) (view : Layout) (indices : List ℤ) → layout_at d start ≡ view → length indices ≡ length view.shape → length indices ≡ length d.dims

@@ -2,6 +2,7 @@
 use Rattle.std.proofs.Common.{◌≡◌, ℕ, zero, suc, ◌+◌, ◌*◌, ◌<◌, ℤ, pos, List, [], ◌∷◌, ◌++◌, length, map, ap, sym, ◌∙◌, refl, subst, arith}
 use Rattle.std.specs.Prelude.{Some, slice_get, slice_index, ◌+ℤ◌, ◌*ℤ◌}
 use Rattle.std.specs.List.{flat_map, range_with_len}
+use Rattle.pybuf_lemmas.proofs.Numbers.{second_factor_positive}
 use Rattle.pybuf_desc.specs.Layouts.{Layout, HasItemsOfItsShape, product}
 use Rattle.pybuf_desc.specs.Descriptor.{Descriptor, shape_of}
 use Rattle.pybuf_desc.specs.Places.{places, Stands}
@@ -49,9 +50,5 @@ pub some_of : (n : ℕ) → (n ≡ 0 → ⊥) → 0 < n
 some_of zero some = absurd (some refl)
 some_of (suc n) some = omega arith
 
-product_of_some : (size n : ℕ) → 0 < size * n → 0 < n
-product_of_some size zero some = absurd (let none : size * 0 ≡ 0 = omega arith in omega (arith, some, none))
-product_of_some size (suc n) some = omega arith
-
 pub some_items : (layout : Layout) → 0 < nbytes_of layout → 0 < product layout.shape
-some_items layout some = product_of_some layout.itemsize (product layout.shape) some
+some_items layout some = second_factor_positive layout.itemsize (product layout.shape) some

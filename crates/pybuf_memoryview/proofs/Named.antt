@@ -1,10 +1,13 @@
 -- The items that keys name exist.
-use Rattle.std.proofs.Common.{◌≡◌, ℕ, ◌+◌, ◌*◌, ◌<◌, List, [], ◌∷◌, length, map, Bool, true, false, true≢false, ◌∙◌, refl, subst, arith, mul_comm}
+use Rattle.std.proofs.Common.{◌≡◌, ℕ, ◌+◌, ◌*◌, ◌<◌, List, [], ◌∷◌, length, map, Bool, true, false, ◌∙◌, refl, subst, arith, mul_comm}
 use Rattle.std.specs.Prelude.{ℤ, ◌==◌, not, nat_lt, slice_index, Result, Ok, Err, if◌then◌else◌}
 use Rattle.std.specs.List.{list_all}
 use Rattle.std.proofs.lemmas.Bool.{eqb-true, ltb-false}
 use Rattle.std.proofs.lemmas.List.{length-map}
 use Rattle.std.proofs.lemmas.Nat.{mul-add-lt}
+use Rattle.pybuf_lemmas.proofs.Booleans.{true_if_not_false}
+use Rattle.pybuf_value.specs.Facts.{done_holds, passed_unless}
+use Rattle.pybuf_index.specs.Facts.{entry_below}
 use Rattle.pybuf_value.specs.declared.faults.Fault.{Fault}
 use Rattle.pybuf_value.specs.declared.faults.Fault.TheVariants as fault
 use Rattle.pybuf_value.specs.declared.values.Scalar.{Scalar}
@@ -17,23 +20,10 @@ use Rattle.pybuf_desc.specs.Layouts.{product}
 use Rattle.pybuf_memoryview.specs.Items.{index_in}
 use Rattle.pybuf_memoryview.specs.Keys.{is_number, part_number, fits_word, item_at_indices, item_of_tuple, item_of_index, item_among, only_item, item_of_key}
 use Rattle.pybuf_memoryview.specs.Laws.{KeysNameItems}
-use Rattle.pybuf_memoryview.proofs.Entries.{entry_below}
 
 -- the item is one of those of a shape
 abbrev Below : List ℕ → ℕ → Type 0
 Below shape item = item < product shape
-
-done : {B : Type 0} (P : B → Type 0) (r : Result B Fault) (x : B) → IfDone P r → r ≡ Ok x → P x
-done P (Ok y) x holds is = let same : y ≡ x = cc in subst P same holds
-done P (Err f) x holds is = absurd (cc)
-
-passed : (b : Bool) (f : Fault) (u : Bool) → unless b f ≡ Ok u → b ≡ false
-passed true f u is = absurd (cc)
-passed false f u is = refl
-
-not_false : (b : Bool) → not b ≡ false → b ≡ true
-not_false true is = refl
-not_false false is = absurd (true≢false is)
 
 at_indices : (shape : List ℕ) (indices : List ℤ) → length indices ≡ length shape → IfDone (Below shape) (item_at_indices shape indices)
 at_indices [] [] one_each = omega arith
@@ -44,7 +34,7 @@ at_indices (n ∷ shape) (index ∷ indices) one_each =
     done_bind (Below (n ∷ shape)) (item_at_indices shape indices) _ (λ item rest.
     subst (λ (most : ℕ). entry * product shape + item < most) (mul_comm (product shape) n)
     (mul-add-lt entry (product shape) item n (entry_below n index entry found)
-    (done (Below shape) (item_at_indices shape indices) item (at_indices shape indices (let same : length indices ≡ length shape = omega (arith, one_each) in same)) rest))))
+    (done_holds (Below shape) (item_at_indices shape indices) item (at_indices shape indices (let same : length indices ≡ length shape = omega (arith, one_each) in same)) rest))))
 
 -- two lengths are equal if neither is less than the other
 as_long : (a b : ℕ) → nat_lt a b ≡ false → nat_lt b a ≡ false → a ≡ b
@@ -58,7 +48,7 @@ of_tuple shape parts =
     done_bind P (unless (nat_lt (length parts) (length shape)) fault.NotImplemented) _ (λ u few.
     done_bind P (unless (nat_lt (length shape) (length parts)) fault.Kind) _ (λ v many.
     at_indices shape (map part_number parts)
-    (length-map parts part_number ∙ as_long (length parts) (length shape) (passed (nat_lt (length parts) (length shape)) fault.NotImplemented u few) (passed (nat_lt (length shape) (length parts)) fault.Kind v many))))))
+    (length-map parts part_number ∙ as_long (length parts) (length shape) (passed_unless (nat_lt (length parts) (length shape)) fault.NotImplemented u few) (passed_unless (nat_lt (length shape) (length parts)) fault.Kind v many))))))
 
 one_entry : (shape : List ℕ) (entry : ℕ) → length shape ≡ 1 → entry < slice_index shape 0 → Below shape entry
 one_entry [] entry one below = absurd (omega (arith, one))
@@ -74,7 +64,7 @@ of_index shape key =
     let P = Below shape in
     done_bind P (index_in key) _ (λ index _.
     done_bind P (unless (not (length shape == 1)) fault.NotImplemented) _ (λ u one.
-    done_entry shape index (eqb-true (length shape) 1 (not_false (length shape == 1) (passed (not (length shape == 1)) fault.NotImplemented u one))) (entry_in (slice_index shape 0) index) refl))
+    done_entry shape index (eqb-true (length shape) 1 (true_if_not_false (length shape == 1) (passed_unless (not (length shape == 1)) fault.NotImplemented u one))) (entry_in (slice_index shape 0) index) refl))
 
 among : (shape : List ℕ) (key : Value) → IfDone (Below shape) (item_among shape key)
 among shape (value.Tuple parts) = of_tuple shape parts
@@ -108,4 +98,4 @@ chosen shape key true is = only_named shape key (eqb-true (length shape) 0 is)
 chosen shape key false is = among shape key
 
 pub named_below : KeysNameItems
-named_below shape key item is = done (Below shape) (item_of_key shape key) item (chosen shape key (length shape == 0) refl) is
+named_below shape key item is = done_holds (Below shape) (item_of_key shape key) item (chosen shape key (length shape == 0) refl) is

@@ -5,22 +5,17 @@ use Rattle.std.specs.List.{flat_map, range_with_len}
 use Rattle.std.proofs.lemmas.Slice.Eq.{bytes_eq-Decides}
 use Rattle.std.proofs.lemmas.List.Elements.{All-head, All-tail, All-nil, All-append}
 use Rattle.std.proofs.lemmas.List.FromFn.{length-range_with_len, get_or-range_with_len}
+use Rattle.pybuf_lemmas.proofs.Numbers.{range_of_sum, range_inside}
+use Rattle.pybuf_memoryview.specs.Facts.{bytes_counted}
+use Rattle.pybuf_slice.specs.Facts.{run_of_bytes, elements_both}
 use Rattle.pybuf_slice.specs.Reads.{elements_at}
 use Rattle.pybuf_desc.specs.Contiguous.{starts_from, is_contiguous_layout}
 use Rattle.pybuf_desc.specs.Layouts.{Layout, LiesInside, HasItemsOfItsShape}
 use Rattle.pybuf_desc.specs.Items.{bytes_of_items, content_of_layout}
 use Rattle.pybuf_memoryview.specs.Orders.{nbytes_of}
 use Rattle.pybuf_memoryview.specs.Laws.{ContiguousItemsAreOneRun}
-use Rattle.pybuf_memoryview.proofs.Gathered.{run_of_bytes, elements_both}
 
 -- ---- items one after the other
-
-range_both : (a m n : ℕ) → range_with_len a (m + n) ≡ range_with_len a m ++ range_with_len (a + m) n
-range_both a zero n = let same : 0 + n ≡ n = omega arith in let at : a + 0 ≡ a = omega arith in rw (same, at) refl
-range_both a (suc m) n =
-    let same : suc m + n ≡ suc (m + n) = omega arith in
-    let at : (a + 1) + m ≡ a + suc m = omega arith in
-    ap (range_with_len a) same ∙ ap (λ (xs : List ℕ). a ∷ xs) (range_both (a + 1) m n ∙ ap (λ (k : ℕ). range_with_len (a + 1) m ++ range_with_len k n) at)
 
 run_from : (first size j n : ℕ) → flat_map (λ (s : ℕ). range_with_len s size) (map (λ k. first + k * size) (range_with_len j n)) ≡ range_with_len (first + j * size) (size * n)
 run_from first size j zero = let none : size * 0 ≡ 0 = omega arith in sym (ap (range_with_len (first + j * size)) none)
@@ -28,7 +23,7 @@ run_from first size j (suc n) =
     let next : first + (j + 1) * size ≡ (first + j * size) + size = grind arith in
     let all : size * suc n ≡ size + size * n = grind arith in
     ap (λ (xs : List ℕ). range_with_len (first + j * size) size ++ xs) (run_from first size (j + 1) n ∙ ap (λ (k : ℕ). range_with_len k (size * n)) next)
-    ∙ sym (range_both (first + j * size) size (size * n)) ∙ ap (range_with_len (first + j * size)) (sym all)
+    ∙ sym (range_of_sum (first + j * size) size (size * n)) ∙ ap (range_with_len (first + j * size)) (sym all)
 
 run_of : (size : ℕ) (starts others : List ℕ) → others ≡ starts → starts ≡ starts_from others size (length starts) → flat_map (λ (s : ℕ). range_with_len s size) starts ≡ range_with_len (slice_index others 0) (size * length starts)
 run_of size [] others same is = let none : size * 0 ≡ 0 = omega arith in sym (ap (range_with_len (slice_index others 0)) none)
@@ -54,16 +49,11 @@ content_at_once : (bytes : List ℕ) (size : ℕ) (starts : List ℕ) → bytes_
 content_at_once bytes size starts is =
     sym (run_of_bytes bytes (slice_index starts 0) (size * length starts)) ∙ ap (elements_at bytes) (sym (one_after_the_other size starts is)) ∙ sym (items_elements bytes size starts)
 
-run_within : (room start n : ℕ) → start + n ≤ room → All (λ place. place < room) (range_with_len start n)
-run_within room start n fits = λ k d below.
-    let within : k < n = omega (arith, below, length-range_with_len start n) in
-    omega (arith, within, fits, get_or-range_with_len start n k d within)
-
 places_within : (room size : ℕ) (starts : List ℕ) → All (λ start. start + size ≤ room) starts → All (λ place. place < room) (flat_map (λ (s : ℕ). range_with_len s size) starts)
 places_within room size [] all = All-nil (λ place. place < room)
 places_within room size (s ∷ starts) all =
     All-append (λ place. place < room) (range_with_len s size) (flat_map (λ (x : ℕ). range_with_len x size) starts)
-    (run_within room s size (All-head (λ start. start + size ≤ room) s starts all)) (places_within room size starts (All-tail (λ start. start + size ≤ room) s starts all))
+    (range_inside room s size (All-head (λ start. start + size ≤ room) s starts all)) (places_within room size starts (All-tail (λ start. start + size ≤ room) s starts all))
 
 -- if each place of a run lies inside, the run ends inside
 run_ends : (room start n : ℕ) → start ≤ room → All (λ place. place < room) (range_with_len start n) → start + n ≤ room
@@ -84,9 +74,6 @@ ends_within room size starts is all =
     (subst (All (λ place. place < room)) (one_after_the_other size starts is) (places_within room size starts all))
 
 -- ---- whole views
-
-bytes_counted : (layout : Layout) → HasItemsOfItsShape layout → nbytes_of layout ≡ layout.itemsize * length layout.starts
-bytes_counted layout counted = ap (λ (n : ℕ). layout.itemsize * n) (sym counted)
 
 pub content_from : (bytes : List ℕ) (layout : Layout) (from : ℕ) → HasItemsOfItsShape layout → is_contiguous_layout layout ≡ true → from ≡ slice_index layout.starts 0
     → take (nbytes_of layout) (drop from bytes) ≡ content_of_layout bytes layout

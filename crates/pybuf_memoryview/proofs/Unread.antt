@@ -1,7 +1,8 @@
 -- A format without codes for bytes writes the same bytes, whatever is lent.
-use Rattle.std.proofs.Common.{◌≡◌, ℕ, zero, suc, ◌+◌, ◌==◌, List, [], ◌∷◌, ◌++◌, length, Bool, true, false, true≢false, ap, sym, refl}
-use Rattle.std.specs.Prelude.{◌||◌, replicate, Result, Err, if◌then◌else◌}
+use Rattle.std.proofs.Common.{◌≡◌, ℕ, zero, suc, ◌+◌, ◌==◌, List, [], ◌∷◌, ◌++◌, length, false, true≢false, ap, sym, refl}
+use Rattle.std.specs.Prelude.{replicate, Result, Err, if◌then◌else◌}
 use Rattle.std.specs.List.{list_any, AllByRecursion}
+use Rattle.pybuf_lemmas.proofs.Booleans.{neither_of}
 use Rattle.pybuf_value.specs.declared.faults.Fault.{Fault}
 use Rattle.pybuf_value.specs.declared.faults.Fault.TheVariants as fault
 use Rattle.pybuf_value.specs.declared.values.Scalar.{Scalar}
@@ -73,14 +74,10 @@ both_unread : (fs gs : List Field) → AreUnread fs → AreUnread gs → AreUnre
 both_unread [] gs left right = right
 both_unread (f ∷ fs) gs left right = (left.0, both_unread fs gs left.1 right)
 
-neither : (a b : Bool) → (a || b) ≡ false → (a ≡ false) × (b ≡ false)
-neither true b is = absurd (true≢false is)
-neither false b is = (refl, is)
-
 fields_unread : (o : Endianness) (offset : ℕ) (codes : List Code) → list_any (λ (c : Code). is_bytes_code c.code) codes ≡ false → AreUnread (fields_from o offset codes)
 fields_unread o offset [] unread = tt
 fields_unread o offset (c ∷ codes) unread =
-    let each = neither (is_bytes_code c.code) (list_any (λ (d : Code). is_bytes_code d.code) codes) unread in
+    let each = neither_of (is_bytes_code c.code) (list_any (λ (d : Code). is_bytes_code d.code) codes) unread in
     both_unread (fields_of_code c.code (size_of o c.code) (offset + c.pre_padding) c.repeat) (fields_from o (offset_after o offset c) codes)
     (code_unread c.code (size_of o c.code) (offset + c.pre_padding) c.repeat each.0) (fields_unread o (offset_after o offset c) codes each.1)
 

@@ -10,3 +10,4 @@ pub mod Snaps
 pub mod Lists
 pub mod Readers
 pub mod Laws
+pub mod Facts

@@ -3,6 +3,8 @@ use Rattle.std.proofs.Common.{◌≡◌, ℕ, ◌*◌, ◌^◌, ◌<◌, ◌&&�
 use Rattle.std.proofs.Math.ListN.{get_or-map}
 use Rattle.std.proofs.lemmas.List.{length-map}
 use Rattle.std.proofs.lemmas.List.Elements.{All-from_recursion, recursion_from_All}
+use Rattle.pybuf_lemmas.proofs.Integers.{size_of_nonnegative}
+use Rattle.pybuf_index.specs.Facts.{entry_below}
 use Rattle.pybuf_value.specs.declared.faults.Fault.{Fault}
 use Rattle.pybuf_value.specs.declared.faults.Fault.TheVariants as fault
 use Rattle.pybuf_value.specs.Halting.{refusal_of}
@@ -20,17 +22,16 @@ use Rattle.pybuf_nd.specs.Selections.{picks_of_each, counts_of, has_zero, select
 use Rattle.pybuf_nd.specs.Planes.{plane_of, entry_of_place}
 use Rattle.pybuf_nd.specs.Axes.{AreAxes, view_in_order, transposition_of, order_check}
 use Rattle.pybuf_nd.specs.Dims.{in_dims, cut_dims, firsts_of, dims_in_order}
-use Rattle.pybuf_nd.proofs.Walks.{abs_pos}
 use Rattle.pybuf_nd.proofs.Cutting.{shape_cut, sound_cut, stands_cut, valid_cut}
 use Rattle.pybuf_nd.proofs.MadeLemmas.{dim_at}
-use Rattle.pybuf_nd.proofs.Planing.{entries_fit, entry_below, IsEntry, entry_is, sound_plane, valid_plane, stands_plane}
+use Rattle.pybuf_nd.proofs.Planing.{entries_fit, IsEntry, entry_is, sound_plane, valid_plane, stands_plane}
 use Rattle.pybuf_nd.proofs.Ordering.{CanBeOrdered, sound_order, valid_order, stands_order, dims_reversed, axes_reversed, valid_transposed, stands_transposed}
 
 -- ---- places
 
 pub next_is : (next start : ℕ) (way z : ℤ) → next ≡ nat_abs (pos start +ℤ way) → way ≡ z → pos 0 ≤ℤ (pos start +ℤ z) → pos next ≡ pos start +ℤ z
 next_is next start way z e f low =
-    ap (λ (n : ℕ). pos n) (e ∙ ap (λ w. nat_abs (pos start +ℤ w)) f) ∙ abs_pos (pos start +ℤ z) low
+    ap (λ (n : ℕ). pos n) (e ∙ ap (λ w. nat_abs (pos start +ℤ w)) f) ∙ size_of_nonnegative (pos start +ℤ z) low
 
 pub position_of_indices : PositionsArePlaces → PlacedDescriptorsStand → (d : Descriptor) (start : ℕ) (indices : List ℕ) → IsPlaced d start → AreIndices indices d.dims
     → IsPosition (layout_at d start) start (number_of_item indices d.dims) (offset_of indices d.dims)

@@ -1,8 +1,9 @@
 -- What is assigned to a view, by the view's descriptor.
-use Rattle.std.proofs.Common.{◌≡◌, ℕ, zero, suc, ◌*◌, ◌<◌, pos, ℤ, Bool, true, false, not, List, [], ◌∷◌, length, map, refl, ap, ap₂, sym, ◌∙◌, subst, arith, true≢false, zero-mul}
+use Rattle.std.proofs.Common.{◌≡◌, ℕ, ◌*◌, ◌<◌, pos, ℤ, Bool, true, false, not, List, [], ◌∷◌, length, map, refl, ap, ap₂, sym, ◌∙◌, subst, arith, true≢false}
 use Rattle.std.specs.Prelude.{◌==◌, nat_abs, Ok}
 use Rattle.std.proofs.lemmas.Bool.{eq-eqb}
 use Rattle.std.proofs.lemmas.List.Elements.{recursion_from_All}
+use Rattle.pybuf_lemmas.proofs.Numbers.{first_factor_positive, second_factor_positive}
 use Rattle.pybuf_value.specs.declared.faults.Fault.TheVariants as fault
 use Rattle.pybuf_value.specs.Refusing.{◌>>=◌, unless}
 use Rattle.pybuf_desc.specs.Layouts.{Layout, product}
@@ -15,23 +16,15 @@ use Rattle.pybuf_verbs_writes.specs.Laid.{laid}
 use Rattle.pybuf_nd.specs.Assigning.{bytes_assigned}
 use Rattle.pybuf_nd.proofs.LaidItems.{Entered, Inside}
 
-left_some : (n m : ℕ) → 0 < n * m → 0 < n
-left_some zero m some = (let none : 0 * m ≡ 0 = zero-mul m in absurd (omega (arith, none, some)))
-left_some (suc n) m some = omega arith
-
-right_some : (n m : ℕ) → 0 < n * m → 0 < m
-right_some n zero some = (let none : n * 0 ≡ 0 = grind arith in absurd (omega (arith, none, some)))
-right_some n (suc m) some = omega arith
-
 all_entered : (dims : List (ℕ × ℤ × ℤ)) → 0 < product (shape_of dims) → Entered dims
 all_entered [] some = tt
-all_entered (dim ∷ dims) some = (left_some dim.0 (product (shape_of dims)) some, all_entered dims (right_some dim.0 (product (shape_of dims)) some))
+all_entered (dim ∷ dims) some = (first_factor_positive dim.0 (product (shape_of dims)) some, all_entered dims (second_factor_positive dim.0 (product (shape_of dims)) some))
 
 -- If there are bytes, no dimension lacks an entry.
 pub entered_of : (d : Descriptor) (dims : List (ℕ × ℤ × ℤ)) (start room : ℕ) (content : List ℕ) → IsValid d start room → dims ≡ d.dims → length content ≡ d.len → 0 < length content → Entered dims
 entered_of d dims start room content valid same long some =
     let whole : 0 < d.itemsize * product (shape_of d.dims) = (let len = valid.len in omega (arith, len, long, some)) in
-    subst Entered (sym same) (all_entered d.dims (right_some d.itemsize (product (shape_of d.dims)) whole))
+    subst Entered (sym same) (all_entered d.dims (second_factor_positive d.itemsize (product (shape_of d.dims)) whole))
 
 pub inside_of : (d : Descriptor) (dims : List (ℕ × ℤ × ℤ)) (start size room : ℕ) → IsValid d start room → dims ≡ d.dims → size ≡ d.itemsize → Inside size room (places dims (pos start))
 inside_of d dims start size room valid same wide =

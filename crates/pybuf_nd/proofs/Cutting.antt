@@ -1,9 +1,12 @@
 -- How slices change the dimensions of a descriptor.
-use Rattle.std.proofs.Common.{◌≡◌, ◌≢◌, ℕ, zero, suc, ◌*◌, ◌^◌, ◌<◌, ◌≤◌, min, ℤ, pos, negsuc, ◌+ℤ◌, ◌*ℤ◌, neg_ℤ, Bool, true, false, true≢false, List, [], ◌∷◌, length, get_or, drop, refl, ap, ap₂, sym, ◌∙◌, subst, arith, SFits, w64, All, mul-le-mul, mul-le-mul_left, le_refl, lt_of_le_of_lt, le-mul_of_pos_right, zero-lt-suc, mul-pos}
+use Rattle.std.proofs.Common.{◌≡◌, ◌≢◌, ℕ, zero, suc, ◌*◌, ◌^◌, ◌<◌, ◌≤◌, ℤ, pos, ◌+ℤ◌, ◌*ℤ◌, Bool, true, false, true≢false, List, [], ◌∷◌, length, get_or, drop, refl, ap, ap₂, sym, ◌∙◌, subst, arith, SFits, w64, All, mul-le-mul, mul-le-mul_left, le_refl, lt_of_le_of_lt, le-mul_of_pos_right, zero-lt-suc}
 use Rattle.std.specs.List.{AllByRecursion}
 use Rattle.std.proofs.lemmas.Int.{ints}
 use Rattle.std.proofs.lemmas.List.Elements.{All-from_recursion, recursion_from_All}
 use Rattle.std.proofs.Math.IntN.{*ℤ_comm, zero-*ℤ}
+use Rattle.pybuf_lemmas.proofs.Integers.{sum_associates, product_is_nonzero, sum_times}
+use Rattle.pybuf_index.specs.Facts.{nearest_word_fits, nearest_word_nonzero, Walks}
+use Rattle.pybuf_desc.specs.Facts.{positive_extent}
 use Rattle.pybuf_index.specs.Parts.{SliceParts, IsSaturated, picks_of, nearest_word}
 use Rattle.pybuf_index.specs.Laws.{SlicesHaveSpans}
 use Rattle.pybuf_desc.specs.Layouts.{Layout, product}
@@ -14,7 +17,7 @@ use Rattle.pybuf_desc.specs.Valid.{IsInside, IsValid, IsPlaced, nonzero_entries}
 use Rattle.pybuf_nd.specs.IndexMaps.{IsIndexList, view_by}
 use Rattle.pybuf_nd.specs.Selections.{picks_of_each, picked_indices, counts_of, strides_after, has_zero, selection_of}
 use Rattle.pybuf_nd.specs.Dims.{in_dims, cut_dims, firsts_of}
-use Rattle.pybuf_nd.proofs.Walks.{Walks, before_first, walks_slice, few_picks, walk_below, walk_line, walk_first, walk_two, times_sum}
+use Rattle.pybuf_nd.proofs.Walks.{before_first, walks_slice, few_picks, walk_below, walk_line, walk_first, walk_two}
 use Rattle.pybuf_nd.proofs.Spread.{AreNonzero, AreSpread, spread_of}
 use Rattle.pybuf_nd.proofs.Remaps.{Remaps, AreSound, stands_remap, valid_remap}
 
@@ -28,20 +31,11 @@ shape_cut [] slices = refl
 shape_cut (dim ∷ dims) [] = refl
 shape_cut (dim ∷ dims) (parts ∷ slices) = ap (λ (ns : List ℕ). length (picks_of dim.0 parts) ∷ ns) (shape_cut dims slices)
 
-pub clamped_fits : (z : ℤ) → SFits w64 z → nearest_word z ≡ z
-clamped_fits (pos n) f = let h : n < 2 ^ 63 = f.sfits in ap (λ (k : ℕ). pos k) (let e : min n 9223372036854775807 ≡ n = omega arith in e)
-clamped_fits (negsuc n) f = let h : n < 2 ^ 63 = f.sfits in ap (λ (k : ℕ). negsuc k) (let e : min n 9223372036854775807 ≡ n = omega arith in e)
-
-clamped_nonzero : (z : ℤ) → z ≢ pos 0 → nearest_word z ≢ pos 0
-clamped_nonzero (pos zero) h e = h refl
-clamped_nonzero (pos (suc n)) h e = let z : min (suc n) 9223372036854775807 ≡ 0 = cc in omega arith
-clamped_nonzero (negsuc n) h e = cc
-
 strides_cut : (dims : List (ℕ × ℤ × ℤ)) (slices : List SliceParts) → AreSaturated slices → strides_of (cut_dims dims slices) ≡ strides_after (strides_of dims) slices
 strides_cut [] slices s = refl
 strides_cut (dim ∷ dims) [] s = refl
 strides_cut (dim ∷ dims) (parts ∷ slices) s =
-    ap₂ (λ (step : ℤ) (ss : List ℤ). nearest_word (dim.1 *ℤ step) ∷ ss) (sym (clamped_fits parts.step s.0.step)) (strides_cut dims slices s.1)
+    ap₂ (λ (step : ℤ) (ss : List ℤ). nearest_word (dim.1 *ℤ step) ∷ ss) (sym (nearest_word_fits parts.step s.0.step)) (strides_cut dims slices s.1)
 
 -- ---- zeros
 
@@ -93,9 +87,9 @@ within_cut spans (dim ∷ dims) (parts ∷ slices) (i ∷ indices) s e h =
 exact : (dim : ℕ × ℤ × ℤ) (step before : ℤ) (xs : List ℕ) → ((a b : ℕ) (s : ℤ) → a < dim.0 → b < dim.0 → pos b *ℤ dim.1 ≡ pos a *ℤ dim.1 +ℤ s → SFits w64 s) → Walks dim.0 step before xs → 1 < length xs
     → nearest_word (dim.1 *ℤ step) ≡ dim.1 *ℤ step
 exact dim step before xs spread w h =
-    clamped_fits (dim.1 *ℤ step)
+    nearest_word_fits (dim.1 *ℤ step)
     (spread (get_or xs 0 0) (get_or xs 1 0) (dim.1 *ℤ step) (walk_below dim.0 step before xs 0 w (omega (arith, h))) (walk_below dim.0 step before xs 1 w h)
-    (ap (λ z. z *ℤ dim.1) (walk_two dim.0 step before xs w h) ∙ times_sum (pos (get_or xs 0 0)) step dim.1 ∙ ap (λ z. pos (get_or xs 0 0) *ℤ dim.1 +ℤ z) (*ℤ_comm step dim.1)))
+    (ap (λ z. z *ℤ dim.1) (walk_two dim.0 step before xs w h) ∙ sum_times (pos (get_or xs 0 0)) step dim.1 ∙ ap (λ z. pos (get_or xs 0 0) *ℤ dim.1 +ℤ z) (*ℤ_comm step dim.1)))
 
 plus_none : (a : ℤ) → pos 0 +ℤ a ≡ a
 plus_none a = omega (arith, ints)
@@ -127,9 +121,6 @@ offset_cut spans (dim ∷ dims) (parts ∷ slices) (i ∷ indices) s e spread h 
     (line_cut dim parts.step (before_first dim.0 parts) picks i spread.0 (walks_of spans dim parts s.0) h.0)
     (offset_cut spans dims slices indices s.1 (omega (arith, e)) spread.1 h.1)
 
-plus_assoc : (a b c : ℤ) → a +ℤ b +ℤ c ≡ a +ℤ (b +ℤ c)
-plus_assoc a b c = omega (arith, ints)
-
 pub remap_cut : SlicesHaveSpans → (d : Descriptor) (start room : ℕ) (slices : List SliceParts) (next : ℕ) → room < 2 ^ 63 → IsValid d start room → AreSaturated slices → length slices ≡ length d.dims
     → (has_zero (counts_of (picks_of_each (shape_of d.dims) slices)) ≡ false → pos next ≡ pos start +ℤ offset_of (firsts_of (picks_of_each (shape_of d.dims) slices)) d.dims)
     → Remaps d.dims start (cut_dims d.dims slices) next (picked_indices (picks_of_each (shape_of d.dims) slices))
@@ -140,35 +131,16 @@ remap_cut spans d start room slices next fits valid s e next_is =
           let some : AreNonzero d.dims = nonzero_cut d.dims slices indices e h in
           let spread : AreSpread d.dims = spread_of d.itemsize room d.dims (pos start) fits some (recursion_from_All (IsInside d.itemsize room) (places d.dims (pos start)) valid.inside) in
           ap (λ z. z +ℤ offset_of indices (cut_dims d.dims slices)) (next_is (ap has_zero (sym (shape_cut d.dims slices)) ∙ some_from_indices (shape_of (cut_dims d.dims slices)) indices h))
-          ∙ plus_assoc (pos start) (offset_of (firsts_of (picks_of_each (shape_of d.dims) slices)) d.dims) (offset_of indices (cut_dims d.dims slices))
+          ∙ sum_associates (pos start) (offset_of (firsts_of (picks_of_each (shape_of d.dims) slices)) d.dims) (offset_of indices (cut_dims d.dims slices))
           ∙ ap (λ z. pos start +ℤ z) (offset_cut spans d.dims slices indices s e spread h);
     }
 
 -- ---- a valid descriptor
 
-pos_none : (n : ℕ) → pos n ≡ pos 0 → n ≡ 0
-pos_none n e = cc
-
-neg_none : (n : ℕ) → neg_ℤ (pos n) ≡ pos 0 → n ≡ 0
-neg_none zero e = refl
-neg_none (suc n) e = absurd (cc)
-
-not_none : (a b n : ℕ) → n ≡ suc a * suc b → n ≡ 0 → ⊥
-not_none a b n e z = let more : 0 < suc a * suc b = mul-pos (zero-lt-suc a) (zero-lt-suc b) in omega (arith, more, e, z)
-
-product_moves : (t s : ℤ) → t ≢ pos 0 → s ≢ pos 0 → t *ℤ s ≢ pos 0
-product_moves (pos zero) s h g e = h refl
-product_moves (pos (suc a)) (pos zero) h g e = g refl
-product_moves (pos (suc a)) (pos (suc b)) h g e = not_none a b (suc a * suc b) refl (pos_none (suc a * suc b) e)
-product_moves (pos (suc a)) (negsuc b) h g e = not_none a b (suc a * suc b) refl (neg_none (suc a * suc b) e)
-product_moves (negsuc a) (pos zero) h g e = g refl
-product_moves (negsuc a) (pos (suc b)) h g e = not_none a b (suc a * suc b) refl (neg_none (suc a * suc b) e)
-product_moves (negsuc a) (negsuc b) h g e = not_none a b (suc a * suc b) refl (pos_none (suc a * suc b) e)
-
 moves_cut : (dims : List (ℕ × ℤ × ℤ)) (slices : List SliceParts) → AreSaturated slices → AllByRecursion (λ (dim : ℕ × ℤ × ℤ). dim.1 ≢ pos 0) dims → AllByRecursion (λ (dim : ℕ × ℤ × ℤ). dim.1 ≢ pos 0) (cut_dims dims slices)
 moves_cut [] slices s h = tt
 moves_cut (dim ∷ dims) [] s h = tt
-moves_cut (dim ∷ dims) (parts ∷ slices) s h = (clamped_nonzero (dim.1 *ℤ parts.step) (product_moves dim.1 parts.step h.0 s.0.moves), moves_cut dims slices s.1 h.1)
+moves_cut (dim ∷ dims) (parts ∷ slices) s h = (nearest_word_nonzero (dim.1 *ℤ parts.step) (product_is_nonzero dim.1 parts.step h.0 s.0.moves), moves_cut dims slices s.1 h.1)
 
 direct_cut : (dims : List (ℕ × ℤ × ℤ)) (slices : List SliceParts) → AllByRecursion (λ (dim : ℕ × ℤ × ℤ). dim.2 ≡ pos 0) dims → AllByRecursion (λ (dim : ℕ × ℤ × ℤ). dim.2 ≡ pos 0) (cut_dims dims slices)
 direct_cut [] slices h = tt
@@ -180,11 +152,6 @@ length_cut [] slices = omega arith
 length_cut (dim ∷ dims) [] = omega arith
 length_cut (dim ∷ dims) (parts ∷ slices) = let less = length_cut dims slices in omega (arith, less)
 
-pub extent_pos : (shape : List ℕ) → 0 < product (nonzero_entries shape)
-extent_pos [] = omega arith
-extent_pos (zero ∷ shape) = extent_pos shape
-extent_pos (suc n ∷ shape) = mul-pos (zero-lt-suc n) (extent_pos shape)
-
 extent_entry : (k n : ℕ) (shape other : List ℕ) → k ≤ n → product (nonzero_entries shape) ≤ product (nonzero_entries other) → product (nonzero_entries (k ∷ shape)) ≤ product (nonzero_entries (n ∷ other))
 extent_entry zero zero shape other h g = g
 extent_entry zero (suc n) shape other h g =
@@ -194,7 +161,7 @@ extent_entry (suc k) (suc n) shape other h g = mul-le-mul h g
 
 extent_cut : (dims : List (ℕ × ℤ × ℤ)) (slices : List SliceParts) → product (nonzero_entries (shape_of (cut_dims dims slices))) ≤ product (nonzero_entries (shape_of dims))
 extent_cut [] slices = le_refl 1
-extent_cut (dim ∷ dims) [] = extent_pos (shape_of (dim ∷ dims))
+extent_cut (dim ∷ dims) [] = positive_extent (shape_of (dim ∷ dims))
 extent_cut (dim ∷ dims) (parts ∷ slices) =
     extent_entry (length (picks_of dim.0 parts)) dim.0 (shape_of (cut_dims dims slices)) (shape_of dims) (few_picks dim.0 parts) (extent_cut dims slices)
 

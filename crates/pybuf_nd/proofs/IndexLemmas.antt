@@ -3,9 +3,11 @@ use Rattle.std.proofs.Common.{◌≡◌, ℕ, zero, suc, ◌+◌, ◌*◌, ◌<�
 use Rattle.std.specs.List.{range_with_len}
 use Rattle.std.proofs.lemmas.Int.{ints}
 use Rattle.std.proofs.lemmas.Nat.{mul-add-lt}
-use Rattle.std.proofs.lemmas.List.{map-append, get_or_append_left}
+use Rattle.std.proofs.lemmas.List.{get_or_append_left}
 use Rattle.std.proofs.lemmas.List.Elements.{All-nil, All-append}
 use Rattle.std.proofs.lemmas.Simd.{map-map}
+use Rattle.pybuf_lemmas.proofs.Lists.{flat_map_same, map_of_flat_map, map_same}
+use Rattle.pybuf_lemmas.proofs.Integers.{sum_associates}
 use Rattle.pybuf_desc.specs.Layouts.{product}
 use Rattle.pybuf_desc.specs.Descriptor.{shape_of}
 use Rattle.pybuf_desc.specs.Places.{places}
@@ -14,18 +16,6 @@ use Rattle.pybuf_desc.specs.ColumnOrder.{number_at}
 use Rattle.pybuf_nd.specs.IndexMaps.{IsIndexList, index_lists}
 
 -- ---- flat maps
-
-pub flat_map_same : {X A : Type 0} (g h : X → List A) (xs : List X) → ((x : X) → g x ≡ h x) → flat_map g xs ≡ flat_map h xs
-flat_map_same g h [] e = refl
-flat_map_same g h (x ∷ xs) e = ap₂ (λ ys zs. ys ++ zs) (e x) (flat_map_same g h xs e)
-
-pub map_of_flat_map : {X A B : Type 0} (f : A → B) (g : X → List A) (xs : List X) → map f (flat_map g xs) ≡ flat_map (λ x. map f (g x)) xs
-map_of_flat_map f g [] = refl
-map_of_flat_map f g (x ∷ xs) = map-append f (g x) (flat_map g xs) ∙ ap (λ ys. map f (g x) ++ ys) (map_of_flat_map f g xs)
-
-pub map_same : {X A : Type 0} (f g : X → A) (xs : List X) → ((x : X) → f x ≡ g x) → map f xs ≡ map g xs
-map_same f g [] e = refl
-map_same f g (x ∷ xs) e = ap₂ (λ y ys. y ∷ ys) (e x) (map_same f g xs e)
 
 -- a flat map over the numbers from a place on, all of them below a bound
 flat_range : {A : Type 0} (g h : ℕ → List A) (bound a n : ℕ) → a + n ≤ bound → ((k : ℕ) → k < bound → g k ≡ h k) → flat_map g (range_with_len a n) ≡ flat_map h (range_with_len a n)
@@ -115,15 +105,12 @@ at_of_all P f shape indices all h =
 
 -- ---- places
 
-plus_moves : (a b c : ℤ) → a +ℤ b +ℤ c ≡ a +ℤ (b +ℤ c)
-plus_moves a b c = omega (arith, ints)
-
 -- the place at each of the indices
 pub places_by_indices : (dims : List (ℕ × ℤ × ℤ)) (start : ℤ) → places dims start ≡ map (λ indices. start +ℤ offset_of indices dims) (index_lists (shape_of dims))
 places_by_indices [] start = ap (λ (q : ℤ). q ∷ []) (let e : start ≡ start +ℤ pos 0 = omega (arith, ints) in e)
 places_by_indices (dim ∷ dims) start =
     flat_map_same (λ index. places dims (start +ℤ pos index *ℤ dim.1)) (λ index. map (λ indices. start +ℤ offset_of indices (dim ∷ dims)) (map (λ (rest : List ℕ). index ∷ rest) (index_lists (shape_of dims)))) (range_with_len 0 dim.0)
     (λ k. places_by_indices dims (start +ℤ pos k *ℤ dim.1)
-    ∙ map_same (λ rest. start +ℤ pos k *ℤ dim.1 +ℤ offset_of rest dims) (λ rest. start +ℤ offset_of (k ∷ rest) (dim ∷ dims)) (index_lists (shape_of dims)) (λ rest. plus_moves start (pos k *ℤ dim.1) (offset_of rest dims))
+    ∙ map_same (λ rest. start +ℤ pos k *ℤ dim.1 +ℤ offset_of rest dims) (λ rest. start +ℤ offset_of (k ∷ rest) (dim ∷ dims)) (index_lists (shape_of dims)) (λ rest. sum_associates start (pos k *ℤ dim.1) (offset_of rest dims))
     ∙ sym (map-map (λ indices. start +ℤ offset_of indices (dim ∷ dims)) (λ (rest : List ℕ). k ∷ rest) (index_lists (shape_of dims))))
     ∙ sym (map_of_flat_map (λ indices. start +ℤ offset_of indices (dim ∷ dims)) (λ index. map (λ (rest : List ℕ). index ∷ rest) (index_lists (shape_of dims))) (range_with_len 0 dim.0))

@@ -7,14 +7,14 @@ use Rattle.std.proofs.lemmas.Bool.{eqb-true, eqb-false, ne_eqb, or_cases, or_par
 use Rattle.std.proofs.lemmas.Bool.Decides.{Decides-int_eq}
 use Rattle.std.proofs.lemmas.List.Elements.{All-from_recursion, recursion_from_All}
 use Rattle.std.proofs.Math.IntN.{zero-*ℤ}
+use Rattle.pybuf_lemmas.proofs.Integers.{last_terms_swap, zeroth_place, next_place, sum_times, successor_times}
+use Rattle.pybuf_desc.specs.Facts.{positive_extent}
 use Rattle.pybuf_desc.specs.Layouts.{Layout, product}
 use Rattle.pybuf_desc.specs.Descriptor.{Descriptor, shape_of}
 use Rattle.pybuf_desc.specs.Places.{places, Stands}
 use Rattle.pybuf_desc.specs.Valid.{IsInside, IsValid, IsPlaceable, nonzero_entries}
 use Rattle.pybuf_nd.specs.Dims.{in_dims}
 use Rattle.pybuf_nd.specs.Merged.{lie_together, joined, merged_from, merged_dims, with_dims, HasNoneTogether}
-use Rattle.pybuf_nd.proofs.Cutting.{extent_pos}
-use Rattle.pybuf_nd.proofs.Walks.{times_sum, next_multiple}
 use Rattle.pybuf_nd.proofs.Remaps.{AreSound}
 
 -- ---- places that are found by adding the stride once for each index
@@ -24,37 +24,23 @@ abbrev pub apart : (ℤ → List ℤ) → ℕ → ℤ → ℤ → List ℤ
 apart block zero p t = []
 apart block (suc n) p t = block p ++ apart block n (p +ℤ t) t
 
-three_terms : (p t x : ℤ) → p +ℤ t +ℤ x ≡ p +ℤ (x +ℤ t)
-three_terms p t x = omega (arith, ints)
-
 shift : (p : ℤ) (m : ℕ) (t : ℤ) → p +ℤ t +ℤ pos m *ℤ t ≡ p +ℤ pos (suc m) *ℤ t
-shift p m t = three_terms p t (pos m *ℤ t) ∙ ap (λ z. p +ℤ z) (sym (next_multiple m t))
-
-plus_none : (p : ℤ) → p +ℤ pos 0 ≡ p
-plus_none p = omega (arith, ints)
-
-at_none : (p t : ℤ) → p +ℤ pos 0 *ℤ t ≡ p
-at_none p t = ap (λ z. p +ℤ z) (zero-*ℤ t) ∙ plus_none p
-
-next_index : (p : ℤ) (i : ℕ) (t : ℤ) → p +ℤ pos (i + 1) *ℤ t ≡ (p +ℤ pos i *ℤ t) +ℤ t
-next_index p i t =
-    ap (λ k. p +ℤ pos k *ℤ t) (let e : i + 1 ≡ suc i = omega arith in e)
-    ∙ ap (λ z. p +ℤ z) (next_multiple i t) ∙ (let f : (x : ℤ) → p +ℤ (x +ℤ t) ≡ (p +ℤ x) +ℤ t = λ x. omega (arith, ints) in f (pos i *ℤ t))
+shift p m t = last_terms_swap p t (pos m *ℤ t) ∙ ap (λ z. p +ℤ z) (sym (successor_times m t))
 
 flat_apart : (block : ℤ → List ℤ) (n i : ℕ) (p t : ℤ) → flat_map (λ index. block (p +ℤ pos index *ℤ t)) (range_with_len i n) ≡ apart block n (p +ℤ pos i *ℤ t) t
 flat_apart block zero i p t = refl
 flat_apart block (suc n) i p t =
-    ap (λ rest. block (p +ℤ pos i *ℤ t) ++ rest) (flat_apart block n (i + 1) p t ∙ ap (λ q. apart block n q t) (next_index p i t))
+    ap (λ rest. block (p +ℤ pos i *ℤ t) ++ rest) (flat_apart block n (i + 1) p t ∙ ap (λ q. apart block n q t) (next_place p i t))
 
 places_apart : (dim : ℕ × ℤ × ℤ) (dims : List (ℕ × ℤ × ℤ)) (p : ℤ) → places (dim ∷ dims) p ≡ apart (places dims) dim.0 p dim.1
-places_apart dim dims p = flat_apart (places dims) dim.0 0 p dim.1 ∙ ap (λ q. apart (places dims) dim.0 q dim.1) (at_none p dim.1)
+places_apart dim dims p = flat_apart (places dims) dim.0 0 p dim.1 ∙ ap (λ q. apart (places dims) dim.0 q dim.1) (zeroth_place p dim.1)
 
 apart_ext : (f g : ℤ → List ℤ) → ((q : ℤ) → f q ≡ g q) → (n : ℕ) (p t : ℤ) → apart f n p t ≡ apart g n p t
 apart_ext f g each zero p t = refl
 apart_ext f g each (suc n) p t = ap₂ (λ xs ys. xs ++ ys) (each p) (apart_ext f g each n (p +ℤ t) t)
 
 apart_add : (f : ℤ → List ℤ) (m n : ℕ) (p t : ℤ) → apart f (m + n) p t ≡ apart f m p t ++ apart f n (p +ℤ pos m *ℤ t) t
-apart_add f zero n p t = ap₂ (λ k q. apart f k q t) (let e : zero + n ≡ n = omega arith in e) (sym (at_none p t))
+apart_add f zero n p t = ap₂ (λ k q. apart f k q t) (let e : zero + n ≡ n = omega arith in e) (sym (zeroth_place p t))
 apart_add f (suc m) n p t =
     ap (λ k. apart f k p t) (let e : suc m + n ≡ suc (m + n) = omega arith in e)
     ∙ ap (λ rest. f p ++ rest) (apart_add f m n (p +ℤ t) t ∙ ap (λ q. apart f m (p +ℤ t) t ++ apart f n q t) (shift p m t))
@@ -113,9 +99,9 @@ times_of_product : (n m : ℕ) (t : ℤ) → pos (n * m) *ℤ t ≡ pos n *ℤ (
 times_of_product zero m t = ap (λ k. pos k *ℤ t) (zero-mul m) ∙ zero-*ℤ t ∙ sym (zero-*ℤ (pos m *ℤ t))
 times_of_product (suc n) m t =
     ap (λ z. z *ℤ t) (let e : pos (suc n * m) ≡ pos (n * m) +ℤ pos m = omega (arith, ints) in e)
-    ∙ times_sum (pos (n * m)) (pos m) t
+    ∙ sum_times (pos (n * m)) (pos m) t
     ∙ ap (λ z. z +ℤ pos m *ℤ t) (times_of_product n m t)
-    ∙ sym (next_multiple n (pos m *ℤ t))
+    ∙ sym (successor_times n (pos m *ℤ t))
 
 one_of_product : (n m : ℕ) → n * m ≡ 1 → n ≡ 1
 one_of_product zero m e = absurd (let none : zero * m ≡ 0 = zero-mul m in omega (arith, e, none))
@@ -288,7 +274,7 @@ product_fits n m shape h = product_below (n * m) shape (lt_of_le_of_lt (extent_j
   where
     product_below : (k : ℕ) (others : List ℕ) → product (nonzero_entries (k ∷ others)) < 2 ^ 63 → k < 2 ^ 63
     product_below zero others g = omega arith
-    product_below (suc k) others g = lt_of_le_of_lt (le-mul_of_pos_right (suc k) (extent_pos others)) g
+    product_below (suc k) others g = lt_of_le_of_lt (le-mul_of_pos_right (suc k) (positive_extent others)) g
 
 -- ---- one more dimension in the walk over them
 

@@ -4,10 +4,11 @@ use Rattle.std.specs.Prelude.{nat_abs, take, slice_index_or}
 use Rattle.std.specs.List.{AllByRecursion, flat_map, range_with_len}
 use Rattle.std.specs.Int.Signed.{lt_z}
 use Rattle.std.proofs.lemmas.Int.{ints}
-use Rattle.std.proofs.Math.Nat.{mul-le-mul_right}
-use Rattle.std.proofs.lemmas.Bool.{le-ltb}
 use Rattle.std.proofs.lemmas.Grind.{common_steps}
 use Rattle.std.proofs.lemmas.List.{map-append, drop-drop, length-map}
+use Rattle.pybuf_lemmas.proofs.Numbers.{range_with_one_more, step_below_start, place_a_step_lower, next_lower_place, place_below_start, natural_is_not_below_zero}
+use Rattle.pybuf_lemmas.proofs.Recursion.{left_by_recursion, right_by_recursion}
+use Rattle.pybuf_lemmas.proofs.Integers.{next_place, zeroth_place}
 use Rattle.pybuf_strided.specs.Apart.{place_of, AreInside, moved_at}
 use Rattle.pybuf_desc.specs.Places.{places}
 use Rattle.pybuf_desc.specs.Segments.{line}
@@ -26,12 +27,6 @@ laid_both bytes size (x ∷ xs) ys content =
 
 -- ---- copies in equal steps
 
-one_more : (j n : ℕ) → range_with_len j (suc n) ≡ range_with_len j n ++ (j + n) ∷ []
-one_more j zero = let same : j ≡ j + 0 = omega arith in ap (λ (k : ℕ). k ∷ []) same
-one_more j (suc n) =
-    let same : (j + 1) + n ≡ j + suc n = omega arith in
-    ap (λ (xs : List ℕ). j ∷ xs) (one_more (j + 1) n ∙ ap (λ (k : ℕ). range_with_len (j + 1) n ++ k ∷ []) same)
-
 long_map : (to : ℕ → ℕ) (j n : ℕ) → length (map to (range_with_len j n)) ≡ n
 long_map to j zero = refl
 long_map to j (suc n) = ap suc (long_map to (j + 1) n)
@@ -42,7 +37,7 @@ starts_of to n = map to (range_with_len 0 n)
 starts_more : (to : ℕ → ℕ) (n : ℕ) → starts_of to (suc n) ≡ starts_of to n ++ to n ∷ []
 starts_more to n =
     let last : 0 + n ≡ n = omega arith in
-    ap (map to) (one_more 0 n ∙ ap (λ (k : ℕ). range_with_len 0 n ++ k ∷ []) last) ∙ map-append to (range_with_len 0 n) (n ∷ [])
+    ap (map to) (range_with_one_more 0 n ∙ ap (λ (k : ℕ). range_with_len 0 n ++ k ∷ []) last) ∙ map-append to (range_with_len 0 n) (n ∷ [])
 
 pub moved_is_laid : (bytes source : List ℕ) (to : ℕ → ℕ) (from size n : ℕ) → moved_at bytes to source (place_of false from size) size n ≡ laid bytes size (starts_of to n) (drop from source)
 moved_is_laid bytes source to from size zero = refl
@@ -78,20 +73,6 @@ rising_high start step j size room (suc count) all (suc k) less =
     let fewer : k < count = omega (arith, less) in
     let rest = rising_high start step (j + 1) size room count (subst (λ (p : ℕ). Inside size room (line (pos p) (pos step) count)) (sym next) all.1) k fewer in
     omega (arith, same, rest)
-
-lower : (a n : ℕ) → pos 0 ≤ℤ (pos a +ℤ negsuc n) → suc n ≤ a
-lower a n low = omega (arith, ints, low)
-
-lower_place : (a n : ℕ) → suc n ≤ a → pos a +ℤ negsuc n ≡ pos (a - suc n)
-lower_place a n low = omega (arith, ints, low)
-
-next_lower : (start n j a : ℕ) → a + j * suc n ≡ start → suc n ≤ a → (a - suc n) + (j + 1) * suc n ≡ start
-next_lower start n j a at low =
-    let more : (j + 1) * suc n ≡ j * suc n + suc n = grind arith in
-    omega (arith, at, low, more)
-
-place_below : (start m a : ℕ) → a + m ≡ start → start - m ≡ a
-place_below start m a at = omega (arith, at)
 
 -- What holds below: the places, and that each lies inside.
 pub record Falls (start n size room j a count : ℕ) : Type 0 where
@@ -134,7 +115,7 @@ cons_high start n size room j a b count at high rest (suc k) less =
 falls_cons : (start n size room j a b count : ℕ) → a + j * suc n ≡ start → (pos a +ℤ pos size) ≤ℤ pos room → map nat_abs (line (pos b) (negsuc n) count) ≡ map nat_abs (line (pos a +ℤ negsuc n) (negsuc n) count)
     → Falls start n size room (j + 1) b count → Falls start n size room j a (suc count)
 falls_cons start n size room j a b count at high next rest = record {
-  starts = ap₂ (λ (p : ℕ) (xs : List ℕ). p ∷ xs) (place_below start (j * suc n) a at) (rest.starts ∙ next);
+  starts = ap₂ (λ (p : ℕ) (xs : List ℕ). p ∷ xs) (place_below_start start (j * suc n) a at) (rest.starts ∙ next);
   low = cons_low start n size room j a b count at rest;
   high = cons_high start n size room j a b count at high rest;
 }
@@ -143,20 +124,17 @@ falling : (start n size room j a count : ℕ) → a + j * suc n ≡ start → In
 falling start n size room j a zero at all = falls_none start n size room j a
 falling start n size room j a (suc zero) at all = falls_cons start n size room j a a 0 at all.0.high refl (falls_none start n size room (j + 1) a)
 falling start n size room j a (suc (suc count)) at all =
-    let low : suc n ≤ a = lower a n all.1.0.low in
-    let next : pos a +ℤ negsuc n ≡ pos (a - suc n) = lower_place a n low in
+    let low : suc n ≤ a = step_below_start a n all.1.0.low in
+    let next : pos a +ℤ negsuc n ≡ pos (a - suc n) = place_a_step_lower a n low in
     falls_cons start n size room j a (a - suc n) (suc count) at all.0.high (ap (λ (p : ℤ). map nat_abs (line p (negsuc n) (suc count))) (sym next))
-    (falling start n size room (j + 1) (a - suc n) (suc count) (next_lower start n j a at low) (subst (λ (p : ℤ). Inside size room (line p (negsuc n) (suc count))) next all.1))
-
-never_below : (n : ℕ) → lt_z (pos n) (pos 0) ≡ false
-never_below n = le-ltb n 0 (let low : 0 ≤ n = omega arith in low)
+    (falling start n size room (j + 1) (a - suc n) (suc count) (next_lower_place start n j a at low) (subst (λ (p : ℤ). Inside size room (line p (negsuc n) (suc count))) next all.1))
 
 by_sign : (start : ℕ) (stride : ℤ) (count size room : ℕ) → Inside size room (line (pos start) stride count) → IsTrack start stride count size room (nat_abs stride) (lt_z stride (pos 0))
 by_sign start (pos n) count size room all =
     let at : start + 0 * n ≡ start = grind arith in
     let begun : Inside size room (line (pos (start + 0 * n)) (pos n) count) = subst (λ (p : ℕ). Inside size room (line (pos p) (pos n) count)) (sym at) all in
     let high : (k : ℕ) → k < count → start + k * n + size ≤ room = λ k less. (let here = rising_high start n 0 size room count begun k less in let same : start + (0 + k) * n ≡ start + k * n = grind arith in omega (arith, here, same)) in
-    subst (λ (b : Bool). IsTrack start (pos n) count size room n b) (sym (never_below n))
+    subst (λ (b : Bool). IsTrack start (pos n) count size room n b) (sym (natural_is_not_below_zero n))
     (let up : IsTrack start (pos n) count size room n false = record {
       starts = rising start n 0 count ∙ ap (λ (p : ℕ). map nat_abs (line (pos p) (pos n) count)) at;
       inside = record { low = λ k less falls. absurd (cc); high = λ some k less. high k less };
@@ -177,46 +155,15 @@ by_track start stride count size room step falls long sign all =
     subst (λ (n : ℕ). IsTrack start stride count size room n falls) (sym long)
     (subst (λ (b : Bool). IsTrack start stride count size room (nat_abs stride) b) (sym sign) (by_sign start stride count size room all))
 
-item_inside : (from size count room : ℕ) → from + count * size ≤ room → (k : ℕ) → k < count → from + k * size + size ≤ room
-item_inside from size count room enough k less =
-    let more : (k + 1) * size ≡ k * size + size = grind arith in
-    let most : (k + 1) * size ≤ count * size = mul-le-mul_right size (let fewer : k + 1 ≤ count = omega (arith, less) in fewer) in
-    omega (arith, enough, more, most)
-
-pub source_inside : (from size count room : ℕ) → from + count * size ≤ room → AreInside false from size count size room
-source_inside from size count room enough = record {
-  low = λ k less falls. absurd (cc);
-  high = λ some k less. item_inside from size count room enough k less;
-}
-
 -- ---- the rows of dimensions
-
-left_of : {X : Type 0} (P : X → Type 0) (xs ys : List X) → AllByRecursion P (xs ++ ys) → AllByRecursion P xs
-left_of P [] ys all = tt
-left_of P (x ∷ xs) ys all = (all.0, left_of P xs ys all.1)
-
-right_of : {X : Type 0} (P : X → Type 0) (xs ys : List X) → AllByRecursion P (xs ++ ys) → AllByRecursion P ys
-right_of P [] ys all = all
-right_of P (x ∷ xs) ys all = right_of P xs ys all.1
-
-next_product : (i : ℕ) (t : ℤ) → pos (i + 1) *ℤ t ≡ pos i *ℤ t +ℤ t
-next_product i (pos n) = omega (arith, ints)
-next_product i (negsuc n) = omega (arith, ints)
-
-next_way : (p : ℤ) (i : ℕ) (t : ℤ) → p +ℤ pos (i + 1) *ℤ t ≡ (p +ℤ pos i *ℤ t) +ℤ t
-next_way p i t = rw next_product (omega (arith, ints))
-
-zeroth_way : (p t : ℤ) → p +ℤ pos 0 *ℤ t ≡ p
-zeroth_way p (pos n) = omega (arith, ints)
-zeroth_way p (negsuc n) = omega (arith, ints)
 
 spread_rows : (block : ℤ → List ℤ) (n i : ℕ) (p t : ℤ) → flat_map (λ index. block (p +ℤ pos index *ℤ t)) (range_with_len i n) ≡ flat_map block (line (p +ℤ pos i *ℤ t) t n)
 spread_rows block zero i p t = refl
 spread_rows block (suc n) i p t =
-    ap (λ (rest : List ℤ). block (p +ℤ pos i *ℤ t) ++ rest) (spread_rows block n (i + 1) p t ∙ ap (λ (q : ℤ). flat_map block (line q t n)) (next_way p i t))
+    ap (λ (rest : List ℤ). block (p +ℤ pos i *ℤ t) ++ rest) (spread_rows block n (i + 1) p t ∙ ap (λ (q : ℤ). flat_map block (line q t n)) (next_place p i t))
 
 places_by_rows : (dim : ℕ × ℤ × ℤ) (dims : List (ℕ × ℤ × ℤ)) (p : ℤ) → places (dim ∷ dims) p ≡ flat_map (places dims) (line p dim.1 dim.0)
-places_by_rows dim dims p = spread_rows (places dims) dim.0 0 p dim.1 ∙ ap (λ (q : ℤ). flat_map (places dims) (line q dim.1 dim.0)) (zeroth_way p dim.1)
+places_by_rows dim dims p = spread_rows (places dims) dim.0 0 p dim.1 ∙ ap (λ (q : ℤ). flat_map (places dims) (line q dim.1 dim.0)) (zeroth_place p dim.1)
 
 rows_first : (block : ℤ → List ℤ) (p t : ℤ) (n : ℕ) → 0 < n → flat_map block (line p t n) ≡ block p ++ flat_map block (line (p +ℤ t) t (n - 1))
 rows_first block p t zero some = absurd (omega (arith, some))
@@ -233,7 +180,7 @@ first_place : (size room : ℕ) (dims : List (ℕ × ℤ × ℤ)) (p : ℤ) → 
 first_place size room [] p some all = all.0
 first_place size room (dim ∷ dims) p some all =
     first_place size room dims p some.1
-    (left_of (IsInside size room) (places dims p) (flat_map (places dims) (line (p +ℤ dim.1) dim.1 (dim.0 - 1)))
+    (left_by_recursion (IsInside size room) (places dims p) (flat_map (places dims) (line (p +ℤ dim.1) dim.1 (dim.0 - 1)))
     (subst (Inside size room) (places_by_rows dim dims p ∙ rows_first (places dims) p dim.1 dim.0 some.0) all))
 
 abbrev pub first_dim : List (ℕ × ℤ × ℤ) → ℕ × ℤ × ℤ
@@ -302,7 +249,7 @@ begun bytes dims start stride size content from some same all = record {
 -- The rows that are left begin with this one.
 pub this_inside : (rest : List (ℕ × ℤ × ℤ)) (place : ℕ) (stride : ℤ) (left size room : ℕ) → 0 < left → Inside size room (left_places rest place stride left) → Inside size room (places rest (pos place))
 this_inside rest place stride left size room some all =
-    left_of (IsInside size room) (places rest (pos place)) (flat_map (places rest) (line (pos place +ℤ stride) stride (left - 1)))
+    left_by_recursion (IsInside size room) (places rest (pos place)) (flat_map (places rest) (line (pos place +ℤ stride) stride (left - 1)))
     (subst (Inside size room) (rows_first (places rest) (pos place) stride left some) all)
 
 this_place : (rest : List (ℕ × ℤ × ℤ)) (place : ℕ) (stride : ℤ) (left size room : ℕ) → 0 < left → Entered rest → Inside size room (left_places rest place stride left) → IsInside size room (pos place)
@@ -312,10 +259,10 @@ that_place : (rest : List (ℕ × ℤ × ℤ)) (place : ℕ) (stride : ℤ) (lef
     → IsInside size room (pos place +ℤ stride)
 that_place rest place stride left size room some more entered all =
     let behind : Inside size room (flat_map (places rest) (line (pos place +ℤ stride) stride (left - 1))) =
-    right_of (IsInside size room) (places rest (pos place)) (flat_map (places rest) (line (pos place +ℤ stride) stride (left - 1)))
+    right_by_recursion (IsInside size room) (places rest (pos place)) (flat_map (places rest) (line (pos place +ℤ stride) stride (left - 1)))
     (subst (Inside size room) (rows_first (places rest) (pos place) stride left some) all) in
     first_place size room rest (pos place +ℤ stride) entered
-    (left_of (IsInside size room) (places rest (pos place +ℤ stride)) (flat_map (places rest) (line ((pos place +ℤ stride) +ℤ stride) stride (left - 1 - 1)))
+    (left_by_recursion (IsInside size room) (places rest (pos place +ℤ stride)) (flat_map (places rest) (line ((pos place +ℤ stride) +ℤ stride) stride (left - 1 - 1)))
     (subst (Inside size room) (rows_first (places rest) (pos place +ℤ stride) stride (left - 1) more) behind))
 
 place_fits : (place size room : ℕ) → IsInside size room (pos place) → room < 2 ^ 63 → place < 2 ^ 63
@@ -381,7 +328,7 @@ stepped bytes more before rest place other stride left count start size content 
           ∙ ap (λ (starts : List ℕ). laid bytes size starts (drop next content)) (sym (ap (map nat_abs) split ∙ map-append nat_abs (places rest (pos place)) (left_places rest other stride (left - 1))))
           ∙ now.laid_so;
       long = long ∙ now.long;
-      inside = right_of (IsInside size (length before)) (places rest (pos place)) (left_places rest other stride (left - 1)) (subst (Inside size (length before)) split now.inside);
+      inside = right_by_recursion (IsInside size (length before)) (places rest (pos place)) (left_places rest other stride (left - 1)) (subst (Inside size (length before)) split now.inside);
       counted = ap (λ (n : ℕ). n + length (left_places rest other stride (left - 1)) * size) step ∙ sym sum ∙ counted;
     }
 

@@ -1,10 +1,10 @@
 -- The steps of walks over dimensions.
 use Rattle.std.proofs.Common.{◌≡◌, ◌≢◌, ℕ, zero, suc, ◌+◌, ◌*◌, ◌^◌, ◌<◌, ℤ, pos, Bool, true, List, ◌∷◌, length, get_or, drop, drop-cons, refl, ap, sym, ◌∙◌, subst, arith, add-one, mul_assoc, mul-zero, zero-mul, mul-le-mul_left, le-mul_of_pos_right, lt_of_le_of_lt}
+use Rattle.pybuf_desc.specs.Facts.{positive_extent}
 use Rattle.pybuf_desc.specs.Layouts.{product}
 use Rattle.pybuf_desc.specs.Descriptor.{shape_of}
 use Rattle.pybuf_desc.specs.Valid.{nonzero_entries}
 use Rattle.pybuf_nd.specs.Selections.{has_zero}
-use Rattle.pybuf_nd.proofs.Cutting.{extent_pos}
 
 abbrev pub dim_at : List (ℕ × ℤ × ℤ) → ℕ → ℕ × ℤ × ℤ
 dim_at dims k = get_or dims k (0, pos 0, pos 0)
@@ -12,7 +12,7 @@ dim_at dims k = get_or dims k (0, pos 0, pos 0)
 fits_entry : (bytes n : ℕ) (shape : List ℕ) → bytes * product (nonzero_entries (n ∷ shape)) < 2 ^ 63 → bytes * n < 2 ^ 63
 fits_entry bytes zero shape h = rw mul-zero (omega arith)
 fits_entry bytes (suc n) shape h =
-    lt_of_le_of_lt (mul-le-mul_left bytes (le-mul_of_pos_right (suc n) (extent_pos shape))) h
+    lt_of_le_of_lt (mul-le-mul_left bytes (le-mul_of_pos_right (suc n) (positive_extent shape))) h
 
 fits_more : (bytes n : ℕ) (shape : List ℕ) → bytes * product (nonzero_entries (n ∷ shape)) < 2 ^ 63 → bytes * n * product (nonzero_entries shape) < 2 ^ 63
 fits_more bytes zero shape h = rw mul-zero (rw zero-mul (omega arith))

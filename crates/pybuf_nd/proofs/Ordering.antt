@@ -1,9 +1,9 @@
 -- Axes in another order.
-use Rattle.std.proofs.Common.{◌≡◌, ◌≢◌, ℕ, zero, suc, ◌+◌, ◌*◌, ◌/◌, ◌^◌, ◌<◌, ◌≤◌, ℤ, pos, ◌+ℤ◌, ◌*ℤ◌, eqb, Bool, true, false, ◌&&◌, nat_lt, List, [], ◌∷◌, ◌++◌, length, get_or, set, swap, reverse, map, drop, refl, ap, ap₂, sym, ◌∙◌, subst, arith, All, IsPermutation, mul_assoc, mul-div_cancel, length-set}
+use Rattle.std.proofs.Common.{◌≡◌, ◌≢◌, ℕ, zero, suc, ◌+◌, ◌*◌, ◌/◌, ◌^◌, ◌<◌, ◌≤◌, ℤ, pos, ◌+ℤ◌, ◌*ℤ◌, eqb, Bool, true, false, ◌&&◌, nat_lt, List, [], ◌∷◌, length, get_or, set, swap, reverse, map, drop, refl, ap, ap₂, sym, ◌∙◌, subst, arith, All, IsPermutation, mul_assoc, mul-div_cancel, length-set}
 use Rattle.std.specs.List.{AllByRecursion, range_with_len, IsDistinct}
 use Rattle.std.proofs.lemmas.Bool.{eqb-true, eqb-false, ne_eqb, ltb-false}
 use Rattle.std.proofs.lemmas.Int.{ints}
-use Rattle.std.proofs.lemmas.List.{length-map, map-append, get_or-set_same, get_or-set_other, reverse-append}
+use Rattle.std.proofs.lemmas.List.{length-map, get_or-set_same, get_or-set_other}
 use Rattle.std.proofs.lemmas.List.FromFn.{length-range_with_len}
 use Rattle.std.proofs.lemmas.List.Edits.{swap_is}
 use Rattle.std.proofs.lemmas.List.Elements.{All-from_recursion, recursion_from_All}
@@ -12,6 +12,9 @@ use Rattle.std.proofs.lemmas.Map.Keys.{IsDistinct-head, IsDistinct-tail, IsDisti
 use Rattle.std.proofs.lemmas.Simd.{map-map}
 use Rattle.std.proofs.Math.ListN.{get_or-map}
 use Rattle.std.proofs.Math.IntN.{zero-*ℤ}
+use Rattle.pybuf_lemmas.proofs.Recursion.{dims_after_first}
+use Rattle.pybuf_lemmas.proofs.Lists.{map_of_reverse, map_same}
+use Rattle.pybuf_desc.specs.Facts.{nonzero_is, some_shape}
 use Rattle.pybuf_desc.specs.Layouts.{Layout, product}
 use Rattle.pybuf_desc.specs.Descriptor.{Descriptor, shape_of, strides_of}
 use Rattle.pybuf_desc.specs.Places.{Stands}
@@ -21,7 +24,6 @@ use Rattle.pybuf_nd.specs.IndexMaps.{IsIndexList, view_by}
 use Rattle.pybuf_nd.specs.Selections.{has_zero}
 use Rattle.pybuf_nd.specs.Axes.{AreAxes, reversed_axes, put_at_axes, indices_by_axis, view_in_order, transposition_of}
 use Rattle.pybuf_nd.specs.Dims.{in_dims, dims_in_order}
-use Rattle.pybuf_nd.proofs.IndexLemmas.{map_same}
 use Rattle.pybuf_nd.proofs.Cutting.{entries_some}
 use Rattle.pybuf_nd.proofs.MadeLemmas.{dim_at}
 use Rattle.pybuf_nd.proofs.Spread.{AreNonzero}
@@ -231,27 +233,14 @@ product_permutation xs ys all p =
     swap_all : (l : List ℕ) (i j : ℕ) → i < length l → j < length l → All (λ n. 0 < n) l → All (λ n. 0 < n) (swap l i j)
     swap_all l i j h g k = All-permutation (λ n. 0 < n) l (swap l i j) (IsPermutation-swap l (swap l i j) i j h g refl) k
 
-nonzero_is : (shape : List ℕ) → AllByRecursion (λ n. 0 < n) shape → nonzero_entries shape ≡ shape
-nonzero_is [] h = refl
-nonzero_is (zero ∷ shape) h = absurd (let low = h.0 in omega (arith, low))
-nonzero_is (suc n ∷ shape) h = ap (λ (ns : List ℕ). suc n ∷ ns) (nonzero_is shape h.1)
-
-shape_some : (dims : List (ℕ × ℤ × ℤ)) → AllByRecursion (λ (dim : ℕ × ℤ × ℤ). 0 < dim.0) dims → AllByRecursion (λ n. 0 < n) (shape_of dims)
-shape_some [] h = tt
-shape_some (dim ∷ dims) h = (h.0, shape_some dims h.1)
-
 extent_some : (dims : List (ℕ × ℤ × ℤ)) (axes : List ℕ) → AreAxes (length dims) axes → has_zero (shape_of dims) ≡ false → product (nonzero_entries (shape_of (dims_in_order dims axes))) ≡ product (nonzero_entries (shape_of dims))
 extent_some dims axes p e =
     let perm : IsPermutation dims (dims_in_order dims axes) = permuted dims axes p in
     let some : All (λ (dim : ℕ × ℤ × ℤ). 0 < dim.0) dims = All-from_recursion (λ (dim : ℕ × ℤ × ℤ). 0 < dim.0) dims (entries_some dims e) in
     let made : AllByRecursion (λ (dim : ℕ × ℤ × ℤ). 0 < dim.0) (dims_in_order dims axes) = recursion_from_All (λ (dim : ℕ × ℤ × ℤ). 0 < dim.0) (dims_in_order dims axes) (All-permutation (λ (dim : ℕ × ℤ × ℤ). 0 < dim.0) dims (dims_in_order dims axes) perm some) in
-    ap product (nonzero_is (shape_of (dims_in_order dims axes)) (shape_some (dims_in_order dims axes) made))
-    ∙ product_permutation (shape_of dims) (shape_of (dims_in_order dims axes)) (All-from_recursion (λ n. 0 < n) (shape_of dims) (shape_some dims (entries_some dims e))) (IsPermutation-map (λ (dim : ℕ × ℤ × ℤ). dim.0) dims (dims_in_order dims axes) perm)
-    ∙ sym (ap product (nonzero_is (shape_of dims) (shape_some dims (entries_some dims e))))
-
-drop_first : (P : ℕ × ℤ × ℤ → Type 0) (dims : List (ℕ × ℤ × ℤ)) → AllByRecursion P dims → AllByRecursion P (drop 1 dims)
-drop_first P [] all = tt
-drop_first P (dim ∷ dims) all = all.1
+    ap product (nonzero_is (shape_of (dims_in_order dims axes)) (some_shape (dims_in_order dims axes) made))
+    ∙ product_permutation (shape_of dims) (shape_of (dims_in_order dims axes)) (All-from_recursion (λ n. 0 < n) (shape_of dims) (some_shape dims (entries_some dims e))) (IsPermutation-map (λ (dim : ℕ × ℤ × ℤ). dim.0) dims (dims_in_order dims axes) perm)
+    ∙ sym (ap product (nonzero_is (shape_of dims) (some_shape dims (entries_some dims e))))
 
 -- There are two cases: no entry is 0, or there is at most one dimension.
 by_zero : {A : Type 0} (dims : List (ℕ × ℤ × ℤ)) → CanBeOrdered dims → (has_zero (shape_of dims) ≡ false → A) → (length dims ≤ 1 → A) → A
@@ -270,7 +259,7 @@ sound_order d start room axes valid p can =
       strides = All-permutation (λ (dim : ℕ × ℤ × ℤ). dim.1 ≢ pos 0) d.dims made perm valid.strides;
       suboffsets = All-permutation (λ (dim : ℕ × ℤ × ℤ). dim.2 ≡ pos 0) d.dims made perm valid.suboffsets;
       later_entries = by_zero d.dims can
-          (λ e. All-from_recursion (λ (dim : ℕ × ℤ × ℤ). 0 < dim.0) (drop 1 made) (drop_first (λ (dim : ℕ × ℤ × ℤ). 0 < dim.0) made
+          (λ e. All-from_recursion (λ (dim : ℕ × ℤ × ℤ). 0 < dim.0) (drop 1 made) (dims_after_first (λ (dim : ℕ × ℤ × ℤ). 0 < dim.0) made
           (recursion_from_All (λ (dim : ℕ × ℤ × ℤ). 0 < dim.0) made (All-permutation (λ (dim : ℕ × ℤ × ℤ). 0 < dim.0) d.dims made perm (All-from_recursion (λ (dim : ℕ × ℤ × ℤ). 0 < dim.0) d.dims (entries_some d.dims e))))))
           (λ few. subst (λ (ds : List (ℕ × ℤ × ℤ)). All (λ (dim : ℕ × ℤ × ℤ). 0 < dim.0) (drop 1 ds)) (sym (same_where_few d.dims axes p few)) valid.later_entries);
       extent_fits = by_zero d.dims can
@@ -317,16 +306,8 @@ stands_order d axes start view p can stands =
 
 -- ---- the reversed order
 
-pub reverse_cons : {X : Type 0} (x : X) (xs : List X) → reverse (x ∷ xs) ≡ reverse xs ++ x ∷ []
-reverse_cons x xs = reverse-append (x ∷ []) xs
-
-pub map_reverse : {X Y : Type 0} (f : X → Y) (xs : List X) → map f (reverse xs) ≡ reverse (map f xs)
-map_reverse f [] = refl
-map_reverse f (x ∷ xs) =
-    ap (map f) (reverse_cons x xs) ∙ map-append f (reverse xs) (x ∷ []) ∙ ap (λ ys. ys ++ f x ∷ []) (map_reverse f xs) ∙ sym (reverse_cons (f x) (map f xs))
-
 pub dims_reversed : (dims : List (ℕ × ℤ × ℤ)) → dims_in_order dims (reversed_axes (length dims)) ≡ reverse dims
-dims_reversed dims = map_reverse (dim_at dims) (range_with_len 0 (length dims)) ∙ ap reverse (all_entries dims)
+dims_reversed dims = map_of_reverse (dim_at dims) (range_with_len 0 (length dims)) ∙ ap reverse (all_entries dims)
 
 pub axes_reversed : (n : ℕ) → AreAxes n (reversed_axes n)
 axes_reversed n = IsPermutation-reverse (range_with_len 0 n)

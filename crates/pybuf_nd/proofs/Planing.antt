@@ -1,13 +1,11 @@
 -- One axis is left out.
-use Rattle.std.proofs.Common.{◌≡◌, ◌≢◌, ℕ, zero, suc, ◌-◌, ◌*◌, ◌^◌, ◌<◌, ◌≤◌, ℤ, pos, negsuc, ◌+ℤ◌, ◌*ℤ◌, ◌≤ℤ◌, ◌<ℤ◌, nat_lt, Bool, true, false, Option, Some, None, Ok, ok_or, if◌then◌else◌, List, [], ◌∷◌, length, drop, insert, remove, map, refl, ap, ap₂, sym, ◌∙◌, subst, arith, SFits, w64, le_refl, mul-le-mul_left, lt_of_le_of_lt, le-mul_of_pos_right, zero-lt-suc}
+use Rattle.std.proofs.Common.{◌≡◌, ◌≢◌, ℕ, zero, suc, ◌-◌, ◌*◌, ◌^◌, ◌<◌, ◌≤◌, ℤ, pos, ◌+ℤ◌, ◌*ℤ◌, ◌≤ℤ◌, ◌<ℤ◌, false, List, [], ◌∷◌, length, drop, insert, remove, map, refl, ap, ap₂, ◌∙◌, subst, arith, SFits, w64, le_refl, mul-le-mul_left, lt_of_le_of_lt, le-mul_of_pos_right, zero-lt-suc}
 use Rattle.std.specs.List.{AllByRecursion}
-use Rattle.std.proofs.lemmas.Bool.{ltb-true}
 use Rattle.std.proofs.lemmas.Int.{ints}
 use Rattle.std.proofs.lemmas.List.Elements.{All-from_recursion, recursion_from_All}
-use Rattle.std.proofs.Math.IntN.{zero-*ℤ}
-use Rattle.pybuf_value.specs.declared.faults.Fault.{Fault}
-use Rattle.pybuf_value.specs.declared.faults.Fault.TheVariants as fault
-use Rattle.pybuf_index.specs.Places.{entry_in}
+use Rattle.pybuf_lemmas.proofs.Integers.{sum_associates, zeroth_place}
+use Rattle.pybuf_lemmas.proofs.Recursion.{dims_after_first}
+use Rattle.pybuf_desc.specs.Facts.{positive_extent}
 use Rattle.pybuf_desc.specs.Layouts.{Layout, product}
 use Rattle.pybuf_desc.specs.Descriptor.{Descriptor, shape_of, strides_of}
 use Rattle.pybuf_desc.specs.Places.{places, Stands}
@@ -17,38 +15,10 @@ use Rattle.pybuf_nd.specs.IndexMaps.{IsIndexList, view_by}
 use Rattle.pybuf_nd.specs.Selections.{has_zero}
 use Rattle.pybuf_nd.specs.Planes.{plane_of}
 use Rattle.pybuf_nd.specs.Dims.{in_dims}
-use Rattle.pybuf_nd.proofs.Cutting.{entries_some, extent_pos}
+use Rattle.pybuf_nd.proofs.Cutting.{entries_some}
 use Rattle.pybuf_nd.proofs.MadeLemmas.{dim_at}
 use Rattle.pybuf_nd.proofs.Spread.{AreNonzero, entry_of, first_of}
 use Rattle.pybuf_nd.proofs.Remaps.{Remaps, AreSound, stands_remap, valid_remap}
-
--- ---- the entry that a place names
-
--- the place of an index, if it is below
-abbrev chosen : Bool → ℕ → Option ℕ
-chosen b x = if b then Some x else None
-
-one_of : (b : Bool) (x n entry : ℕ) (f : Fault) → (b ≡ true → x < n) → ok_or (chosen b x) f ≡ Ok entry → entry < n
-one_of true x n entry f below h = let is : x ≡ entry = cc in subst (λ m. m < n) is (below refl)
-one_of false x n entry f below h = absurd (cc)
-
-below_lt : (k n : ℕ) → nat_lt k n ≡ true → k < n
-below_lt k n e = ltb-true k n e
-
-before_end : (k n : ℕ) → nat_lt k n ≡ true → n - suc k < n
-before_end k n e = let low = below_lt k n e in omega (arith, low)
-
-pub entry_below : (n : ℕ) (place : ℤ) (entry : ℕ) → entry_in n place ≡ Ok entry → entry < n
-entry_below n (pos k) entry h = by_test (nat_lt k n) refl
-  where
-    by_test : (b : Bool) → nat_lt k n ≡ b → entry < n
-    by_test true e = one_of true k n entry fault.Index (λ _. below_lt k n e) (sym (ap (λ b. ok_or (chosen b k) fault.Index) e) ∙ h)
-    by_test false e = one_of false k n entry fault.Index (λ w. below_lt k n (e ∙ w)) (sym (ap (λ b. ok_or (chosen b k) fault.Index) e) ∙ h)
-entry_below n (negsuc k) entry h = by_test (nat_lt k n) refl
-  where
-    by_test : (b : Bool) → nat_lt k n ≡ b → entry < n
-    by_test true e = one_of true (n - suc k) n entry fault.Index (λ _. before_end k n e) (sym (ap (λ b. ok_or (chosen b (n - suc k)) fault.Index) e) ∙ h)
-    by_test false e = one_of false (n - suc k) n entry fault.Index (λ w. before_end k n (e ∙ w)) (sym (ap (λ b. ok_or (chosen b (n - suc k)) fault.Index) e) ∙ h)
 
 -- ---- shape and strides
 
@@ -61,9 +31,6 @@ map_remove f (dim ∷ dims) (suc axis) h = ap (λ xs. f dim ∷ xs) (map_remove 
 
 swap_terms : (a b c : ℤ) → a +ℤ (b +ℤ c) ≡ b +ℤ (a +ℤ c)
 swap_terms a b c = omega (arith, ints)
-
-plus_assoc : (a b c : ℤ) → a +ℤ b +ℤ c ≡ a +ℤ (b +ℤ c)
-plus_assoc a b c = omega (arith, ints)
 
 within_insert : (dims : List (ℕ × ℤ × ℤ)) (axis entry : ℕ) (indices : List ℕ) → axis < length dims → entry < (dim_at dims axis).0 → IsIndexList (shape_of (remove dims axis)) indices → IsIndexList (shape_of dims) (insert indices axis entry)
 within_insert [] axis entry indices h below i = absurd (omega (arith, h))
@@ -87,7 +54,7 @@ remap_plane dims start next axis entry h below e =
       within = λ indices i. within_insert dims axis entry indices h below i;
       same = λ indices i.
           ap (λ z. z +ℤ offset_of indices (remove dims axis)) e
-          ∙ plus_assoc (pos start) (pos entry *ℤ (dim_at dims axis).1) (offset_of indices (remove dims axis))
+          ∙ sum_associates (pos start) (pos entry *ℤ (dim_at dims axis).1) (offset_of indices (remove dims axis))
           ∙ ap (λ z. pos start +ℤ z) (offset_insert dims axis entry indices h i);
     }
 
@@ -101,14 +68,11 @@ nonzero_all (dim ∷ dims) e = let some = entries_some (dim ∷ dims) e in (some
     nonzero_from [] h = tt
     nonzero_from (d ∷ ds) h = (h.0, nonzero_from ds h.1)
 
-plus_zeroth : (p t : ℤ) → p +ℤ pos 0 *ℤ t ≡ p
-plus_zeroth p t = ap (λ z. p +ℤ z) (zero-*ℤ t) ∙ (let e : p +ℤ pos 0 ≡ p = omega (arith, ints) in e)
-
 entry_inside : (P : ℤ → Type 0) (dims : List (ℕ × ℤ × ℤ)) (p : ℤ) (axis entry : ℕ) → axis < length dims → entry < (dim_at dims axis).0 → AreNonzero dims → AllByRecursion P (places dims p) → P (p +ℤ pos entry *ℤ (dim_at dims axis).1)
 entry_inside P [] p axis entry h below some all = absurd (omega (arith, h))
 entry_inside P (dim ∷ dims) p zero entry h below some all = first_of P dims (p +ℤ pos entry *ℤ dim.1) some.1 (entry_of P dim dims p entry below all)
 entry_inside P (dim ∷ dims) p (suc axis) entry h below some all =
-    entry_inside P dims p axis entry (omega (arith, h)) below some.1 (subst (λ q. AllByRecursion P (places dims q)) (plus_zeroth p dim.1) (entry_of P dim dims p 0 some.0 all))
+    entry_inside P dims p axis entry (omega (arith, h)) below some.1 (subst (λ q. AllByRecursion P (places dims q)) (zeroth_place p dim.1) (entry_of P dim dims p 0 some.0 all))
 
 way_fits : (p m : ℤ) (size room : ℕ) → room < 2 ^ 63 → IsInside size room p → IsInside size room (p +ℤ m) → SFits w64 m
 way_fits p m size room fits x y = let l = x.low in let h = x.high in let k = y.low in let g = y.high in omega (arith, ints, fits, l, h, k, g)
@@ -122,7 +86,7 @@ end_below q size room fits x = let h = x.high in omega (arith, ints, fits, h)
 entry_fits : (e n : ℕ) (shape : List ℕ) → 0 < e → e * product (nonzero_entries (n ∷ shape)) < 2 ^ 63 → n < 2 ^ 63
 entry_fits e zero shape h f = omega arith
 entry_fits e (suc n) shape h f =
-    let one : suc n ≤ suc n * product (nonzero_entries shape) = le-mul_of_pos_right (suc n) (extent_pos shape) in
+    let one : suc n ≤ suc n * product (nonzero_entries shape) = le-mul_of_pos_right (suc n) (positive_extent shape) in
     let two : suc n * product (nonzero_entries shape) ≤ suc n * product (nonzero_entries shape) * e = le-mul_of_pos_right (suc n * product (nonzero_entries shape)) h in
     let all : e * (suc n * product (nonzero_entries shape)) < 2 ^ 63 = f in omega (arith, one, two, all)
 
@@ -172,10 +136,6 @@ length_remove [] axis h = absurd (omega (arith, h))
 length_remove (dim ∷ dims) zero h = omega arith
 length_remove (dim ∷ dims) (suc axis) h = let less = length_remove dims axis (omega (arith, h)) in omega (arith, less)
 
-drop_first : (P : ℕ × ℤ × ℤ → Type 0) (dims : List (ℕ × ℤ × ℤ)) → AllByRecursion P dims → AllByRecursion P (drop 1 dims)
-drop_first P [] all = tt
-drop_first P (dim ∷ dims) all = all.1
-
 first_less : (n : ℕ) (shape : List ℕ) → product (nonzero_entries shape) ≤ product (nonzero_entries (n ∷ shape))
 first_less zero shape = le_refl (product (nonzero_entries shape))
 first_less (suc n) shape =
@@ -196,7 +156,7 @@ sound_plane d start room axis valid h e =
       few = (let less = length_remove d.dims axis h in let few = valid.few_dimensions in omega (arith, less, few));
       strides = All-from_recursion (λ (dim : ℕ × ℤ × ℤ). dim.1 ≢ pos 0) (remove d.dims axis) (all_remove (λ (dim : ℕ × ℤ × ℤ). dim.1 ≢ pos 0) d.dims axis h (recursion_from_All (λ (dim : ℕ × ℤ × ℤ). dim.1 ≢ pos 0) d.dims valid.strides));
       suboffsets = All-from_recursion (λ (dim : ℕ × ℤ × ℤ). dim.2 ≡ pos 0) (remove d.dims axis) (all_remove (λ (dim : ℕ × ℤ × ℤ). dim.2 ≡ pos 0) d.dims axis h (recursion_from_All (λ (dim : ℕ × ℤ × ℤ). dim.2 ≡ pos 0) d.dims valid.suboffsets));
-      later_entries = All-from_recursion (λ (dim : ℕ × ℤ × ℤ). 0 < dim.0) (drop 1 (remove d.dims axis)) (drop_first (λ (dim : ℕ × ℤ × ℤ). 0 < dim.0) (remove d.dims axis) (all_remove (λ (dim : ℕ × ℤ × ℤ). 0 < dim.0) d.dims axis h (entries_some d.dims e)));
+      later_entries = All-from_recursion (λ (dim : ℕ × ℤ × ℤ). 0 < dim.0) (drop 1 (remove d.dims axis)) (dims_after_first (λ (dim : ℕ × ℤ × ℤ). 0 < dim.0) (remove d.dims axis) (all_remove (λ (dim : ℕ × ℤ × ℤ). 0 < dim.0) d.dims axis h (entries_some d.dims e)));
       extent_fits = lt_of_le_of_lt (mul-le-mul_left d.itemsize (extent_remove d.dims axis h)) valid.extent_fits;
     }
 

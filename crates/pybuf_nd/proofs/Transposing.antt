@@ -7,27 +7,23 @@ use Rattle.std.proofs.lemmas.List.FromFn.{length-range_with_len}
 use Rattle.std.proofs.lemmas.List.Folds.{flat_map-map}
 use Rattle.std.proofs.lemmas.Grind.{flat_map-append}
 use Rattle.std.proofs.lemmas.Simd.{map-map}
+use Rattle.pybuf_lemmas.proofs.Numbers.{range_with_one_more}
+use Rattle.pybuf_lemmas.proofs.Lists.{flat_map_same, map_of_flat_map, map_same, map_of_reverse, reverse_cons}
 use Rattle.pybuf_desc.specs.Layouts.{Layout, HasItemsOfItsShape, product}
 use Rattle.pybuf_desc.specs.Items.{bytes_of_items, content_of_layout}
 use Rattle.pybuf_desc.specs.ColumnOrder.{number_at, start_at, column_index_lists, column_starts}
 use Rattle.pybuf_nd.specs.IndexMaps.{IsIndexList, index_lists}
 use Rattle.pybuf_nd.specs.Axes.{reversed_axes, put_at_axes, indices_by_axis, transposition_of}
-use Rattle.pybuf_nd.proofs.IndexLemmas.{flat_map_same, map_of_flat_map, map_same, item_at, map_over}
-use Rattle.pybuf_nd.proofs.Ordering.{map_reverse, reverse_cons}
+use Rattle.pybuf_nd.proofs.IndexLemmas.{item_at, map_over}
 
 -- ---- the reversed axes put the indices in the reversed order
 
 abbrev zero_of : ℕ → ℕ
 zero_of k = 0
 
-range_snoc : (a n : ℕ) → range_with_len a (suc n) ≡ range_with_len a n ++ (a + n) ∷ []
-range_snoc a zero = ap (λ k. k ∷ []) (let e : a ≡ a + zero = omega arith in e)
-range_snoc a (suc n) =
-    ap (λ (ks : List ℕ). a ∷ ks) (range_snoc (a + 1) n ∙ ap (λ k. range_with_len (a + 1) n ++ k ∷ []) (let e : a + 1 + n ≡ a + suc n = omega arith in e))
-
 axes_snoc : (n : ℕ) → reversed_axes (suc n) ≡ n ∷ reversed_axes n
 axes_snoc n =
-    ap reverse (range_snoc 0 n) ∙ reverse-append (range_with_len 0 n) ((0 + n) ∷ []) ∙ ap (λ k. k ∷ reverse (range_with_len 0 n)) (let e : 0 + n ≡ n = omega arith in e)
+    ap reverse (range_with_one_more 0 n) ∙ reverse-append (range_with_len 0 n) ((0 + n) ∷ []) ∙ ap (λ k. k ∷ reverse (range_with_len 0 n)) (let e : 0 + n ≡ n = omega arith in e)
 
 set_front : (xs ys : List ℕ) (k y : ℕ) → k < length xs → set (xs ++ ys) k y ≡ set xs k y ++ ys
 set_front [] ys k y h = absurd (omega (arith, h))
@@ -119,7 +115,7 @@ all_entries (x ∷ xs) =
     ∙ entries_shifted (λ k. get_or (x ∷ xs) k 0) (λ k. get_or xs k 0) 0 (length xs) (λ k. refl) ∙ all_entries xs)
 
 pub shape_transposed : (view : Layout) → (transposition_of view).shape ≡ reverse view.shape
-shape_transposed view = map_reverse (λ axis. get_or view.shape axis 0) (range_with_len 0 (length view.shape)) ∙ ap reverse (all_entries view.shape)
+shape_transposed view = map_of_reverse (λ axis. get_or view.shape axis 0) (range_with_len 0 (length view.shape)) ∙ ap reverse (all_entries view.shape)
 
 -- the item of the transposition at some indices
 starts_transposed : (view : Layout) → (transposition_of view).starts ≡ map (λ indices. start_at view (reverse indices)) (index_lists (reverse view.shape))

@@ -1,14 +1,15 @@
 -- Views of bytes in a shape, as the code keeps them.
-use Rattle.std.proofs.Common.{◌≡◌, ℕ, zero, suc, ◌+◌, ◌*◌, ◌<◌, ◌≤◌, ◌^◌, Bool, true, List, [], ◌∷◌, length, map, refl, sym, ◌∙◌, ap, ap₂, subst, arith, get_or, All}
-use Rattle.std.specs.Prelude.{codes, Result, Ok, Err, IfOk}
+use Rattle.std.proofs.Common.{◌≡◌, ℕ, ◌*◌, ◌≤◌, ◌^◌, true, List, length, sym, ◌∙◌, ap, subst, arith, get_or, All}
+use Rattle.std.specs.Prelude.{codes, Result, IfOk}
 use Rattle.std.specs.List.{range_with_len}
-use Rattle.std.proofs.lemmas.Slice.Eq.{bytes_eq-Decides}
-use Rattle.std.proofs.lemmas.List.FromFn.{length-range_with_len, get_or-range_with_len}
+use Rattle.std.proofs.lemmas.List.FromFn.{length-range_with_len}
+use Rattle.pybuf_lemmas.proofs.Results.{if_ok_follows}
+use Rattle.pybuf_desc.specs.Facts.{whole_is_contiguous, whole_is_inside}
 use Rattle.pybuf_value.specs.declared.faults.Outcome.{Outcome}
 use Rattle.pybuf_value.specs.declared.faults.Outcome.TheVariants as outcome
 use Rattle.pybuf_value.specs.Halting.{given_by}
 use Rattle.pybuf_value.specs.Refusing.{IfDone}
-use Rattle.pybuf_desc.specs.Contiguous.{starts_from, is_contiguous_layout}
+use Rattle.pybuf_desc.specs.Contiguous.{is_contiguous_layout}
 use Rattle.pybuf_desc.specs.Layouts.{Layout, LiesInside, bytes_layout, product}
 use Rattle.pybuf_desc.specs.ShapedCasts.{cast_to}
 use Rattle.pybuf_desc.specs.Descriptor.{Descriptor}
@@ -18,22 +19,6 @@ use Rattle.pybuf_desc.specs.Laws.{DescriptorsStandForOneView, ValidWhereItemsLie
 use Rattle.pybuf_nd_lines.specs.Selections.{bytes_in_shape}
 
 -- ---- all bytes as one view
-
-by_ones : (xs : List ℕ) → map (λ k. 0 + k * 1) xs ≡ xs
-by_ones [] = refl
-by_ones (x ∷ xs) = ap₂ (λ (y : ℕ) (ys : List ℕ). y ∷ ys) (let same : 0 + x * 1 ≡ x = omega arith in same) (by_ones xs)
-
-whole_starts : (n : ℕ) → range_with_len 0 n ≡ starts_from (range_with_len 0 n) 1 (length (range_with_len 0 n))
-whole_starts zero = refl
-whole_starts (suc n) = sym (ap (λ (m : ℕ). map (λ k. 0 + k * 1) (range_with_len 0 m)) (length-range_with_len 0 (suc n)) ∙ by_ones (range_with_len 0 (suc n)))
-
-whole_is_contiguous : (n : ℕ) (readonly : Bool) → is_contiguous_layout (bytes_layout n readonly) ≡ true
-whole_is_contiguous n readonly = (bytes_eq-Decides (range_with_len 0 n) (starts_from (range_with_len 0 n) 1 (length (range_with_len 0 n)))).1 (whole_starts n)
-
-whole_is_inside : (n : ℕ) (readonly : Bool) → LiesInside n (bytes_layout n readonly)
-whole_is_inside n readonly = λ k d below.
-    let within : k < n = omega (arith, below, length-range_with_len 0 n) in
-    omega (arith, within, get_or-range_with_len 0 n k d within)
 
 pub contiguous_whole : (n : ℕ) (view : Layout) → view ≡ bytes_layout n true → is_contiguous_layout view ≡ true
 contiguous_whole n view is = ap is_contiguous_layout is ∙ whole_is_contiguous n true
@@ -49,14 +34,10 @@ shape_is_inside stay n shape text whole fits is =
     subst (λ (view : Layout). LiesInside n (cast_to view text 1 shape)) (sym is)
     (stay (bytes_layout n true) text 1 shape n (whole_is_contiguous n true) (omega arith) (shape_bytes n (product shape) fits) (whole_is_inside n true))
 
-if_ok_so : {T E : Type 0} (r : Result T E) (P Q : T → Type 0) → ((x : T) → P x → Q x) → IfOk r P → IfOk r Q
-if_ok_so (Ok x) P Q f h = f x h
-if_ok_so (Err e) P Q f h = tt
-
 pub inside_if : {E : Type 0} → ShapedCastsStayInside → (r : Result Layout E) (n : ℕ) (shape text : List ℕ) (whole : Layout) → n ≡ product shape → whole ≡ bytes_layout n true
     → IfOk r (λ view. view ≡ cast_to whole text 1 shape) → IfOk r (λ view. LiesInside n view)
 inside_if stay r n shape text whole fits is made =
-    if_ok_so r (λ view. view ≡ cast_to whole text 1 shape) (λ view. LiesInside n view)
+    if_ok_follows r (λ view. view ≡ cast_to whole text 1 shape) (λ view. LiesInside n view)
     (λ view e. subst (LiesInside n) (sym e) (shape_is_inside stay n shape text whole fits is)) made
 
 -- ---- views that are made of a view

@@ -1,7 +1,9 @@
 -- Selections that pick nothing.
-use Rattle.std.proofs.Common.{◌≡◌, ℕ, zero, suc, Bool, true, false, List, [], ◌∷◌, ◌++◌, length, drop, map, flat_map, refl, sym, ◌∙◌, ap}
+use Rattle.std.proofs.Common.{◌≡◌, ℕ, zero, suc, Bool, true, false, List, [], ◌∷◌, length, drop, map, flat_map, refl, sym, ◌∙◌, ap}
 use Rattle.std.specs.Prelude.{◌&&◌, nat_lt, Result, Ok, Err}
 use Rattle.std.specs.List.{range_with_len}
+use Rattle.pybuf_lemmas.proofs.Lists.{flat_map_of_none}
+use Rattle.pybuf_lemmas.proofs.Booleans.{first_of_both}
 use Rattle.pybuf_value.specs.declared.faults.Fault.{Fault}
 use Rattle.pybuf_value.specs.declared.faults.Outcome.{Outcome}
 use Rattle.pybuf_value.specs.declared.faults.Outcome.TheVariants as outcome
@@ -17,20 +19,16 @@ use Rattle.pybuf_nd.specs.Axes.{transposition_of, order_check}
 use Rattle.pybuf_nd.specs.Laws.{TranspositionsAreColumnOrder}
 use Rattle.pybuf_nd_lines.specs.Selections.{Selection, bytes_in_shape, transposed_if, selection_text}
 
-nothing_each : {X A : Type 0} (f : X → List A) (xs : List X) → ((x : X) → f x ≡ []) → flat_map f xs ≡ []
-nothing_each f [] none = refl
-nothing_each f (x ∷ xs) none = ap (λ ys. ys ++ flat_map f xs) (none x) ∙ nothing_each f xs none
-
 no_rows : (shape : List ℕ) → has_zero shape ≡ true → index_lists shape ≡ []
 no_rows [] h = cc
 no_rows (zero ∷ shape) h = refl
 no_rows (suc n ∷ shape) h =
     ap (λ (lists : List (List ℕ)). flat_map (λ index. map (λ (indices : List ℕ). index ∷ indices) lists) (range_with_len 0 (suc n))) (no_rows shape h)
-    ∙ nothing_each (λ index. map (λ (indices : List ℕ). index ∷ indices) []) (range_with_len 0 (suc n)) (λ index. refl)
+    ∙ flat_map_of_none (λ index. map (λ (indices : List ℕ). index ∷ indices) []) (range_with_len 0 (suc n)) (λ index. refl)
 
 no_columns : (shape : List ℕ) → has_zero shape ≡ true → column_index_lists shape ≡ []
 no_columns [] h = cc
-no_columns (zero ∷ shape) h = nothing_each (λ (indices : List ℕ). map (λ index. index ∷ indices) (range_with_len 0 0)) (column_index_lists shape) (λ indices. refl)
+no_columns (zero ∷ shape) h = flat_map_of_none (λ (indices : List ℕ). map (λ index. index ∷ indices) (range_with_len 0 0)) (column_index_lists shape) (λ indices. refl)
 no_columns (suc n ∷ shape) h =
     ap (λ (lists : List (List ℕ)). flat_map (λ (indices : List ℕ). map (λ index. index ∷ indices) (range_with_len 0 (suc n))) lists) (no_columns shape h)
 
@@ -44,10 +42,6 @@ zero_behind : (ns : List ℕ) → has_zero (drop 1 ns) ≡ true → has_zero ns 
 zero_behind [] h = h
 zero_behind (zero ∷ ns) h = refl
 zero_behind (suc n ∷ ns) h = h
-
-both_so : (a b : Bool) → (a && b) ≡ true → a ≡ true
-both_so true b h = refl
-both_so false b h = h
 
 nothing_picked : (view : Layout) (slices : List SliceParts) (f : Fault) → Err f ≡ refusal_of (selection_check view.shape slices)
     → has_zero (counts_of (picks_of_each view.shape slices)) ≡ true
@@ -66,7 +60,7 @@ nothing_transposed columns bytes view h =
 nothing_turned : TranspositionsAreColumnOrder → (bytes : List ℕ) (view : Layout) (f : Fault) → Err f ≡ refusal_of (order_check view.shape)
     → content_of_layout bytes (transposition_of view) ≡ []
 nothing_turned columns bytes view f e =
-    nothing_transposed columns bytes view (both_so (has_zero view.shape) (nat_lt 1 (length view.shape)) (refused_so (has_zero view.shape && nat_lt 1 (length view.shape)) f _ e))
+    nothing_transposed columns bytes view (first_of_both (has_zero view.shape) (nat_lt 1 (length view.shape)) (refused_so (has_zero view.shape && nat_lt 1 (length view.shape)) f _ e))
 
 nothing_asked : TranspositionsAreColumnOrder → (bytes : List ℕ) (view : Layout) (slices : List SliceParts) (transposed : Bool) (f : Fault)
     → Err f ≡ refusal_of (selection_check view.shape slices) → content_of_layout bytes (transposed_if transposed (selection_of view slices)) ≡ []

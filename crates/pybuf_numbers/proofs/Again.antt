@@ -16,13 +16,15 @@ use Rattle.pybuf_numbers.proofs.Ranges.{wide}
 use Rattle.std.proofs.Common.{to_z, of_z}
 use Rattle.std.specs.Int.{w128}
 use Rattle.std.proofs.lemmas.Int.{to_z-of_z}
+use Rattle.pybuf_lemmas.proofs.Lists.{bytes_of_all}
+use Rattle.pybuf_numbers.specs.Facts.{numbers_of_none, no_array_items_whole}
 use Rattle.pybuf_numbers.proofs.Digits.{IsBytes}
-use Rattle.pybuf_numbers.proofs.CodeLemmas.{length_digits, number_again, piece_again, digits_bytes, reversed_bytes, bytes_of_all, one_again, one_whole, none_is, none_whole, append_is, append_whole}
+use Rattle.pybuf_numbers.proofs.CodeLemmas.{length_digits, number_again, piece_again, digits_bytes, reversed_bytes, one_again, one_whole, append_is, append_whole}
 
 -- ---- lists
 
 list_back : (c : ArrayCode) (list : List ℤ) → AllByRecursion (Fits c) list → ReadsBack c list
-list_back c [] fit = record { numbers = none_is c; whole = none_whole c }
+list_back c [] fit = record { numbers = numbers_of_none c; whole = no_array_items_whole c }
 list_back c (n ∷ ns) fit =
     let rest = list_back c ns fit.1 in
     record {

@@ -1,26 +1,24 @@
 -- Numbers of a code and their bytes.
-use Rattle.std.proofs.Common.{◌≡◌, ℕ, zero, suc, ◌+◌, ◌-◌, ◌*◌, ◌/◌, ◌<◌, ◌≤◌, List, [], ◌∷◌, ◌++◌, length, take, drop, map, get_or, refl, sym, ap, subst, ltb, ◌∙◌, arith, ℤ, slice_get, Some, mul-zero}
-use Rattle.std.specs.Prelude.{Bool, true, false, set, reverse, All, IsTrue}
+use Rattle.std.proofs.Common.{◌≡◌, ℕ, zero, suc, ◌+◌, ◌-◌, ◌*◌, ◌/◌, ◌<◌, ◌≤◌, List, [], ◌∷◌, ◌++◌, length, take, drop, get_or, refl, sym, ap, subst, ltb, ◌∙◌, arith, ℤ, slice_get, Some}
+use Rattle.std.specs.Prelude.{Bool, true, false, set, reverse, IsTrue}
 use Rattle.std.specs.Int.{bytes_low_first}
-use Rattle.std.specs.Simd.{first_chunks}
 use Rattle.std.proofs.Math.Nat.{mul-le-mul_left, mul-div-le, mul-suc}
 use Rattle.std.proofs.lemmas.Bool.{ltb-true, ltb-false}
 use Rattle.std.proofs.lemmas.List.{set_split, length-reverse, get_or-reverse, get_or_past, drop-drop}
+use Rattle.pybuf_lemmas.proofs.Numbers.{length_low_first}
+use Rattle.pybuf_numbers.specs.Facts.{length_of_numbers, no_array_items_whole, numbers_of_none}
+use Rattle.pybuf_struct.specs.Facts.{digits_again, halved, complement_fits, signed_again, reads_back, signed_back}
 use Rattle.pybuf_struct.specs.Digits.{signed_as, unsigned_number}
 use Rattle.pybuf_struct.specs.Packing.{complement_of}
 use Rattle.pybuf_slice.specs.Edits.{replaced_range}
 use Rattle.pybuf_numbers.specs.declared.codes.ArrayCode.{ArrayCode}
 use Rattle.pybuf_numbers.specs.Codes.{size_of, is_signed, holds}
 use Rattle.pybuf_numbers.specs.Numbers.{number_in, digits_of, numbers_of, is_whole}
-use Rattle.pybuf_numbers.proofs.Sizes.{some_size, is_a_width, whole_from_length, count_from_length}
-use Rattle.pybuf_numbers.proofs.Edited.{length_spelled, spelled_at, spelled_edit, whole_edit, spelled_append, whole_append, spelled_one, whole_one}
-use Rattle.pybuf_numbers.proofs.Digits.{digits_again, halved, complement_fits, signed_again, reads_back, signed_back, IsBytes}
+use Rattle.pybuf_numbers.proofs.Sizes.{some_size, is_a_width}
+use Rattle.pybuf_numbers.proofs.Edited.{spelled_at, spelled_edit, whole_edit, spelled_append, whole_append, spelled_one, whole_one}
+use Rattle.pybuf_numbers.proofs.Digits.{IsBytes}
 
 -- ---- one number
-
-length_low_first : (i k n : ℕ) → length (bytes_low_first i k n) ≡ k
-length_low_first i zero n = refl
-length_low_first i (suc k) n = ap suc (length_low_first (suc i) k n)
 
 pub length_digits : (c : ArrayCode) (n : ℤ) → length (digits_of c n) ≡ size_of c
 length_digits c n = length_low_first 0 (size_of c) (complement_of (size_of c) n)
@@ -68,19 +66,11 @@ reversed_by xs k false bytes e = subst (λ (n : ℕ). n < 256) (sym (get_or_past
 pub reversed_bytes : (xs : List ℕ) → IsBytes xs → IsBytes (reverse xs)
 reversed_bytes xs bytes k = reversed_by xs k (ltb k (length xs)) bytes refl
 
-pub bytes_of_all : (xs : List ℕ) → All (λ b. b < 256) xs → IsBytes xs
-bytes_of_all [] all i = omega arith
-bytes_of_all (x ∷ xs) all zero = all 0 0 (omega arith)
-bytes_of_all (x ∷ xs) all (suc i) = bytes_of_all xs (λ k d inside. all (suc k) d (omega arith)) i
-
 -- ---- where a number lies
-
-pub count_is : (c : ArrayCode) (bytes : List ℕ) → length (numbers_of c bytes) ≡ length bytes / size_of c
-count_is c bytes = length_spelled (number_in c) (size_of c) (some_size c) bytes
 
 pub start_low : (c : ArrayCode) (bytes : List ℕ) (place : ℕ) → place ≤ length (numbers_of c bytes) → size_of c * place ≤ length bytes
 start_low c bytes place there =
-    omega (arith, mul-le-mul_left {m = place} {n = length bytes / size_of c} (size_of c) (omega (arith, count_is c bytes)), mul-div-le (length bytes) (size_of c))
+    omega (arith, mul-le-mul_left {m = place} {n = length bytes / size_of c} (size_of c) (omega (arith, length_of_numbers c bytes)), mul-div-le (length bytes) (size_of c))
 
 pub start_high : (c : ArrayCode) (bytes : List ℕ) (place : ℕ) → place < length (numbers_of c bytes) → size_of c * place + size_of c ≤ length bytes
 start_high c bytes place there = omega (arith, start_low c bytes (suc place) there, mul-suc (size_of c) place)
@@ -122,14 +112,14 @@ pub edit_is : (c : ArrayCode) (bytes others : List ℕ) (i j at to : ℕ) → i 
 edit_is c bytes others i j at to ordered inside whole other start end =
     ap (λ p. numbers_of c (replaced_range bytes p to others)) start
     ∙ (ap (λ p. numbers_of c (replaced_range bytes (size_of c * i) p others)) end
-    ∙ spelled_edit (number_in c) (size_of c) (some_size c) i j bytes others ordered (omega (arith, count_is c bytes)) whole other)
+    ∙ spelled_edit (number_in c) (size_of c) (some_size c) i j bytes others ordered (omega (arith, length_of_numbers c bytes)) whole other)
 
 pub edit_whole : (c : ArrayCode) (bytes others : List ℕ) (i j at to : ℕ) → i ≤ j → j ≤ length (numbers_of c bytes) → is_whole c bytes ≡ true → is_whole c others ≡ true
     → at ≡ size_of c * i → to ≡ size_of c * j → is_whole c (replaced_range bytes at to others) ≡ true
 edit_whole c bytes others i j at to ordered inside whole other start end =
     ap (λ p. is_whole c (replaced_range bytes p to others)) start
     ∙ (ap (λ p. is_whole c (replaced_range bytes (size_of c * i) p others)) end
-    ∙ whole_edit (number_in c) (size_of c) (some_size c) i j bytes others ordered (omega (arith, count_is c bytes)) whole other)
+    ∙ whole_edit (number_in c) (size_of c) (some_size c) i j bytes others ordered (omega (arith, length_of_numbers c bytes)) whole other)
 
 -- a number in place of the one at a place
 pub put_is : (c : ArrayCode) (bytes digits : List ℕ) (place at k : ℕ) (n : ℤ) → place < length (numbers_of c bytes) → is_whole c bytes ≡ true → holds c n ≡ true
@@ -156,21 +146,14 @@ insert_whole c bytes digits place at n there whole same start =
     ap (λ d. is_whole c (replaced_range bytes at at d)) same
     ∙ edit_whole c bytes (digits_of c n) place place at at (omega arith) there whole (one_whole c n) start start
 
--- an array without numbers
-pub none_whole : (c : ArrayCode) → is_whole c [] ≡ true
-none_whole c = whole_from_length (size_of c) 0 0 (sym (mul-zero (size_of c)))
-
-pub none_is : (c : ArrayCode) → numbers_of c [] ≡ []
-none_is c = ap (λ n. map (number_in c) (first_chunks (size_of c) n [])) (count_from_length (size_of c) 0 0 (some_size c) (sym (mul-zero (size_of c))))
-
 -- the numbers without the one at a place
 pub remove_is : (c : ArrayCode) (bytes : List ℕ) (place at to : ℕ) → place < length (numbers_of c bytes) → is_whole c bytes ≡ true → at ≡ size_of c * place → to ≡ at + size_of c
     → numbers_of c (replaced_range bytes at to []) ≡ replaced_range (numbers_of c bytes) place (suc place) []
 remove_is c bytes place at to there whole start end =
-    edit_is c bytes [] place (suc place) at to (omega arith) there whole (none_whole c) start (omega (arith, mul-suc (size_of c) place))
-    ∙ ap (λ ns. replaced_range (numbers_of c bytes) place (suc place) ns) (none_is c)
+    edit_is c bytes [] place (suc place) at to (omega arith) there whole (no_array_items_whole c) start (omega (arith, mul-suc (size_of c) place))
+    ∙ ap (λ ns. replaced_range (numbers_of c bytes) place (suc place) ns) (numbers_of_none c)
 
 pub remove_whole : (c : ArrayCode) (bytes : List ℕ) (place at to : ℕ) → place < length (numbers_of c bytes) → is_whole c bytes ≡ true → at ≡ size_of c * place → to ≡ at + size_of c
     → is_whole c (replaced_range bytes at to []) ≡ true
 remove_whole c bytes place at to there whole start end =
-    edit_whole c bytes [] place (suc place) at to (omega arith) there whole (none_whole c) start (omega (arith, mul-suc (size_of c) place))
+    edit_whole c bytes [] place (suc place) at to (omega arith) there whole (no_array_items_whole c) start (omega (arith, mul-suc (size_of c) place))

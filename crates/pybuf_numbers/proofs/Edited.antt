@@ -4,9 +4,10 @@ use Rattle.std.specs.Prelude.{true, ◌==◌}
 use Rattle.std.specs.Simd.{first_chunks}
 use Rattle.std.proofs.lemmas.List.{take-map, drop-map, take_all, length-map, map-append, append-nil}
 use Rattle.std.proofs.Math.Nat.{mul-suc, mul-add}
+use Rattle.pybuf_lemmas.proofs.Lists.{length_of_chunks}
 use Rattle.pybuf_slice.specs.Edits.{replaced_range}
 use Rattle.pybuf_numbers.proofs.Sizes.{count_from_length, whole_from_length, length_from_whole}
-use Rattle.pybuf_numbers.proofs.Pieces.{length_pieces, pieces_edited, length_edited, piece_at}
+use Rattle.pybuf_numbers.proofs.Pieces.{pieces_edited, length_edited, piece_at}
 
 drop_past : {X : Type 0} (n : ℕ) (xs : List X) → length xs ≤ n → drop n xs ≡ []
 drop_past zero [] past = refl
@@ -20,7 +21,7 @@ module _ (f : List ℕ → ℤ) (s : ℕ) (some : 0 < s) where
   spelled xs = map f (first_chunks s (length xs / s) xs)
 
   pub length_spelled : (xs : List ℕ) → length (spelled xs) ≡ length xs / s
-  length_spelled xs = length-map (first_chunks s (length xs / s) xs) f ∙ length_pieces s (length xs / s) xs
+  length_spelled xs = length-map (first_chunks s (length xs / s) xs) f ∙ length_of_chunks s (length xs / s) xs
 
   get_mapped : (ps : List (List ℕ)) (i : ℕ) (p : List ℕ) → slice_get ps i ≡ Some p → slice_get (map f ps) i ≡ Some (f p)
   get_mapped [] i p is = absurd cc

@@ -2,7 +2,6 @@ mod Sizes
 mod Ranges
 mod Pieces
 mod Edited
-mod EightItems
 mod Digits
 mod CodeLemmas
 mod Searching

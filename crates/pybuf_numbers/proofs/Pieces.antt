@@ -3,10 +3,7 @@ use Rattle.std.proofs.Common.{◌≡◌, ℕ, zero, suc, ◌+◌, ◌-◌, ◌*�
 use Rattle.std.proofs.Math.Nat.{mul-suc, mul-le-mul_left, mul-add}
 use Rattle.std.proofs.lemmas.List.{drop-drop, take-append-le, drop-append-le, take_at, drop_at, take-append-drop, length-take-le}
 use Rattle.std.specs.Simd.{first_chunks}
-
-pub length_pieces : (s k : ℕ) (xs : List ℕ) → length (first_chunks s k xs) ≡ k
-length_pieces s zero xs = refl
-length_pieces s (suc k) xs = ap suc (length_pieces s k (drop s xs))
+use Rattle.pybuf_lemmas.proofs.Lists.{length_of_chunks}
 
 -- the first i pieces, and then j more
 pub pieces_split : (s i j : ℕ) (xs : List ℕ) → first_chunks s (i + j) xs ≡ first_chunks s i xs ++ first_chunks s j (drop (s * i) xs)
@@ -50,14 +47,14 @@ pieces_taken s i k xs some =
     let all : k ≡ i + (k - i) = omega arith in
     ap (λ n. take i (first_chunks s n xs)) all
     ∙ (ap (λ ps. take i ps) (pieces_split s i (k - i) xs)
-    ∙ take_at (first_chunks s i xs) _ i (length_pieces s i xs))
+    ∙ take_at (first_chunks s i xs) _ i (length_of_chunks s i xs))
 
 pub pieces_dropped : (s j k : ℕ) (xs : List ℕ) → j ≤ k → drop j (first_chunks s k xs) ≡ first_chunks s (k - j) (drop (s * j) xs)
 pieces_dropped s j k xs some =
     let all : k ≡ j + (k - j) = omega arith in
     ap (λ n. drop j (first_chunks s n xs)) all
     ∙ (ap (λ ps. drop j ps) (pieces_split s j (k - j) xs)
-    ∙ drop_at (first_chunks s j xs) _ j (length_pieces s j xs))
+    ∙ drop_at (first_chunks s j xs) _ j (length_of_chunks s j xs))
 
 -- other pieces in place of those from one place up to another
 pub pieces_edited : (s i j k m : ℕ) (xs others : List ℕ) → i ≤ j → j ≤ k → s * k ≤ length xs → length others ≡ s * m

@@ -1,11 +1,12 @@
 -- Walks, and walks over the places of another walk.
 use Rattle.std.proofs.Common.{◌≡◌, ℕ, zero, suc, ◌+◌, ◌-◌, ◌*◌, ◌/◌, ◌<◌, ◌≤◌, Bool, true, false, List, [], ◌∷◌, ◌++◌, length, refl, sym, ap, subst, ◌∙◌, arith, slice_get, Some}
-use Rattle.std.specs.Prelude.{reverse, slice_index, ◌≢◌, ℤ, pos, negsuc, int_lt, nat_abs}
+use Rattle.std.specs.Prelude.{reverse, slice_index, ◌≢◌, ℤ, pos, int_lt, nat_abs}
 use Rattle.std.proofs.Common.{ltb}
 use Rattle.std.specs.List.{range_with_len}
 use Rattle.std.proofs.Math.Nat.{suc-mul, mul_comm, mul_assoc, add-mul, div-mul-le_self, div-le_self, mul-le-mul_right}
 use Rattle.std.proofs.lemmas.List.{reverse-append, length-reverse}
-use Rattle.std.proofs.lemmas.Bool.{ltb-true, le-ltb}
+use Rattle.std.proofs.lemmas.Bool.{ltb-true}
+use Rattle.pybuf_index.specs.Facts.{length_rising, negative_is}
 use Rattle.pybuf_index.specs.Picks.{is_negative}
 use Rattle.pybuf_index.specs.Laws.{SpanPicksAre}
 use Rattle.pybuf_slice.specs.Reads.{elements_at}
@@ -173,10 +174,6 @@ falling_walk low stride (suc count) =
     ∙ (ap (λ rest. (low + count * stride) ∷ rest) (falling_walk low stride count ∙ before_last low stride count)
     ∙ sym (ap (λ m. walk true m stride (suc count)) same)))
 
-length_rising : (low stride count : ℕ) → length (rising low stride count) ≡ count
-length_rising low stride zero = refl
-length_rising low stride (suc count) = ap suc (length_rising (low + stride) stride count)
-
 -- A span that has indices reaches as far as they do, and has as many places.
 span_count : (low high stride : ℕ) (b : Bool) → ltb low high ≡ b → how_many low high stride ≢ 0 → (low < high) × (((how_many low high stride - 1) * stride ≤ high - low - 1) × (how_many low high stride ≤ high - low))
 span_count low high stride true e some =
@@ -222,20 +219,16 @@ slice_falls low high k n step list picks count span inside some sign =
 
 -- ---- the same for a step that the code sees
 
-negative_test : (z : ℤ) → int_lt z (pos 0) ≡ is_negative z
-negative_test (pos n) = le-ltb n 0 (omega arith)
-negative_test (negsuc n) = refl
-
 pub code_rises : (low high k n stride : ℕ) (step seen : ℤ) (indices : List ℕ) → picks_in_span low high step ≡ indices → k ≡ length indices → SpanPicksAre low high step → high ≤ n → (k ≡ 0 → ⊥)
     → seen ≡ step → stride ≡ nat_abs seen → int_lt seen (pos 0) ≡ false → IsWalk indices n false low stride k
 code_rises low high k n stride step seen indices picks count span inside some same far sign =
     let size : stride ≡ nat_abs step = far ∙ ap nat_abs same in
-    let up : is_negative step ≡ false = sym (negative_test step) ∙ (ap (λ (z : ℤ). int_lt z (pos 0)) (sym same) ∙ sign) in
+    let up : is_negative step ≡ false = sym (negative_is step) ∙ (ap (λ (z : ℤ). int_lt z (pos 0)) (sym same) ∙ sign) in
     subst (λ (m : ℕ). IsWalk indices n false low m k) (sym size) (slice_rises low high k n step indices picks count span inside some up)
 
 pub code_falls : (low high k n stride : ℕ) (step seen : ℤ) (indices : List ℕ) → picks_in_span low high step ≡ indices → k ≡ length indices → SpanPicksAre low high step → high ≤ n → (k ≡ 0 → ⊥)
     → seen ≡ step → stride ≡ nat_abs seen → int_lt seen (pos 0) ≡ true → IsWalk indices n true (high - 1) stride k
 code_falls low high k n stride step seen indices picks count span inside some same far sign =
     let size : stride ≡ nat_abs step = far ∙ ap nat_abs same in
-    let down : is_negative step ≡ true = sym (negative_test step) ∙ (ap (λ (z : ℤ). int_lt z (pos 0)) (sym same) ∙ sign) in
+    let down : is_negative step ≡ true = sym (negative_is step) ∙ (ap (λ (z : ℤ). int_lt z (pos 0)) (sym same) ∙ sign) in
     subst (λ (m : ℕ). IsWalk indices n true (high - 1) m k) (sym size) (slice_falls low high k n step indices picks count span inside some down)

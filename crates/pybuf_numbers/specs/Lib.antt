@@ -2,3 +2,4 @@ pub mod Codes
 pub mod Numbers
 pub mod Walks
 pub mod Laws
+pub mod Facts

@@ -5,26 +5,23 @@ use Rattle.std.specs.List.{position_or_len, onto_first}
 use Rattle.std.proofs.lemmas.List.Splits.{slice_split_first, slice_split_none}
 use Rattle.std.proofs.lemmas.List.Sums.{position_or_len_is}
 use Rattle.std.proofs.lemmas.List.{get_or_default, drop_more}
+use Rattle.pybuf_lemmas.proofs.Booleans.{false_if_untrue}
 use Rattle.bstr.specs.Find.{IsFirstByte, is_byte}
 use Rattle.pybuf_line.specs.Words.{words}
 use Rattle.pybuf_sessions.specs.Asks.{rest_text, IsFront}
-
-is_false : (b : Bool) → ¬ (b ≡ true) → b ≡ false
-is_false true h = absurd (h refl)
-is_false false h = refl
 
 pub cut_there : (at : ℕ) (text : List ℕ) → IsFirstByte (is_byte 32) text (Some at) → words text ≡ take at text ∷ words (drop (at + 1) text)
 cut_there at text h =
     let high = h.0.high in
     let same : position_or_len (is_byte 32) text ≡ at =
     position_or_len_is (is_byte 32) text at 0 (omega arith)
-    (λ k less. is_false (get_or text k 0 == 32) (h.0.before k (omega arith) less)) (λ less. h.1) in
+    (λ k less. false_if_untrue (get_or text k 0 == 32) (h.0.before k (omega arith) less)) (λ less. h.1) in
     slice_split_first (is_byte 32) text 0 (omega arith) ∙ ap (λ i. take i text ∷ words (drop (i + 1) text)) same
 
 pub nowhere : (text : List ℕ) → IsFirstByte (is_byte 32) text None → words text ≡ text ∷ []
 nowhere text h =
     slice_split_none (is_byte 32) text
-    (λ k d here. ap (is_byte 32) (get_or_default text k d 0 here) ∙ is_false (get_or text k 0 == 32) (h k (omega arith) here))
+    (λ k d here. ap (is_byte 32) (get_or_default text k d 0 here) ∙ false_if_untrue (get_or text k 0 == 32) (h k (omega arith) here))
 
 -- The words of a text, each with a blank before it, are a blank and then the text.
 onto_text : (b : ℕ) (all : List (List ℕ)) (text : List ℕ) → rest_text all ≡ 32 ∷ text → rest_text (onto_first b all) ≡ 32 ∷ b ∷ text

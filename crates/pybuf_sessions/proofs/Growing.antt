@@ -1,6 +1,7 @@
 -- Scripts that grow by one command.
 use Rattle.std.proofs.Common.{◌≡◌, ◌≢◌, ℕ, zero, suc, ◌+◌, ◌<◌, ◌≤◌, max, Bool, true, false, cond, ◌==◌, List, [], ◌∷◌, ◌++◌, length, map, set, slice_index_or, refl, sym, ◌∙◌, ap, arith, tests}
 use Rattle.std.proofs.lemmas.List.{append-nil}
+use Rattle.pybuf_lemmas.proofs.Numbers.{number_equals_itself}
 use Rattle.pybuf_command.specs.declared.commands.LocalCommand.{LocalCommand}
 use Rattle.pybuf_share.specs.Finishing.{numbers_from}
 use Rattle.pybuf_sessions.specs.declared.asks.Ask.{Ask}
@@ -27,9 +28,6 @@ script_more (ask ∷ more) a k =
 
 is_other : (n k : ℕ) → n ≢ k → (n == k) ≡ false
 is_other n k h = grind (arith, tests)
-
-is_same : (n : ℕ) → (n == n) ≡ true
-is_same n = grind (arith, tests)
 
 script_none : (asks : List Ask) (k : ℕ) → session_count asks ≤ k → script_of asks k ≡ []
 script_none [] k h = refl
@@ -81,7 +79,7 @@ gets_one : (asks : List Ask) (a : Ask) → Gets (script_of asks) (script_of (ask
 gets_one asks a = record {
   same = λ k other. script_more asks a k
       ∙ (ap (λ is. script_of asks k ++ got is a.command) (is_other a.session k (λ e. other (sym e))) ∙ append-nil (script_of asks k));
-  here = script_more asks a a.session ∙ ap (λ is. script_of asks a.session ++ got is a.command) (is_same a.session);
+  here = script_more asks a a.session ∙ ap (λ is. script_of asks a.session ++ got is a.command) (number_equals_itself a.session);
   none = λ k h. script_none asks k h;
 }
 

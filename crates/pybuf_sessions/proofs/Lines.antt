@@ -1,12 +1,8 @@
 -- What lines ask for, after one more line.
-use Rattle.std.proofs.Common.{◌≡◌, ℕ, ◌+◌, ◌≤◌, List, [], ◌∷◌, ◌++◌, length, refl, sym, ◌∙◌, ap, Bool, true, false, cond, ◌==◌, arith}
+use Rattle.std.proofs.Common.{◌≡◌, ℕ, ◌+◌, List, [], ◌∷◌, ◌++◌, length, refl, sym, ◌∙◌, ap, arith}
 use Rattle.std.specs.Prelude.{Result, Ok, Err, Some, None}
 use Rattle.std.proofs.lemmas.List.{append_assoc, append-nil}
-use Rattle.std.proofs.lemmas.List.Splits.{length-slice_split}
-use Rattle.std.proofs.lemmas.List.Sums.{count_by-le-length}
 use Rattle.pybuf_command.specs.declared.commands.LocalCommand.{LocalCommand}
-use Rattle.pybuf_line.specs.Lines.{lines, without_empty_last}
-use Rattle.pybuf_line.specs.Parts.{parts_at}
 use Rattle.pybuf_sessions.specs.declared.asks.Ask.{Ask}
 use Rattle.pybuf_sessions.specs.Asks.{ask_in}
 use Rattle.pybuf_sessions.specs.Scripts.{scripts_of, added}
@@ -66,22 +62,6 @@ all_asked all scripts n left far none =
     ∙ (ap (λ asks. Ok (scripts_of asks)) (append-nil far.asks) ∙ ap Ok (sym far.kept))
 
 -- ---- numbers of lines
-
-last_fewer : (part : List ℕ) (empty : Bool) → length (cond empty [] (part ∷ [])) ≤ 1
-last_fewer part true = omega arith
-last_fewer part false = omega arith
-
-fewer : (parts : List (List ℕ)) → length (without_empty_last parts) ≤ length parts
-fewer [] = omega arith
-fewer (part ∷ []) = last_fewer part (length part == 0)
-fewer (part ∷ next ∷ more) = omega (arith, fewer (next ∷ more))
-
--- There is at most one line more than there are bytes.
-pub few_lines : (input : List ℕ) → length (lines input) ≤ length input + 1
-few_lines input =
-    let whole = fewer (parts_at 10 input) in
-    let parts = length-slice_split (λ b. b == 10) input in
-    omega (arith, whole, parts, count_by-le-length (λ b. b == 10) input)
 
 -- A line is left, so the count of lines that were read is below the count of all lines.
 pub counted : (n : ℕ) (left after all : List (List ℕ)) (line : List ℕ) → left ≡ line ∷ after → n + length left ≡ length all + 1 → n + 1 + length after ≡ length all + 1

@@ -1,5 +1,5 @@
 -- Numbers that decimal digits spell, as `parse` reads them.
-use Rattle.std.proofs.Common.{◌≡◌, ◌≢◌, ℕ, ◌<◌, ◌^◌, Bool, true, false, ◌&&◌, List, [], ◌∷◌, length, get_or, refl, sym, ◌∙◌, ap, subst, arith, tests}
+use Rattle.std.proofs.Common.{◌≡◌, ◌≢◌, ℕ, ◌<◌, ◌^◌, true, List, [], ◌∷◌, length, get_or, refl, sym, ◌∙◌, ap, subst, arith, tests}
 use Rattle.std.specs.Prelude.{None}
 use Rattle.std.specs.Char.{digit_value, is_ascii_digit}
 use Rattle.std.specs.List.{list_all}
@@ -9,6 +9,7 @@ use Rattle.std.proofs.lemmas.Str.Parse.{without_leading_plus_none}
 use Rattle.std.proofs.lemmas.Str.Ascii.{IsAscii-from_all}
 use Rattle.std.proofs.lemmas.Str.{IsUtf8-from_ascii}
 use Rattle.std.proofs.lemmas.List.Sums.{AllPass-from_list_all}
+use Rattle.pybuf_lemmas.proofs.Booleans.{first_of_both, second_of_both}
 use Rattle.pybuf_line.specs.Scalars.{is_number, below, number_below}
 
 digit_small : (c : ℕ) → is_ascii_digit c ≡ true → digit_value c < 10
@@ -20,18 +21,10 @@ digit_byte c h = grind (arith, tests)
 digit_no_plus : (c : ℕ) → is_ascii_digit c ≡ true → c ≢ 43
 digit_no_plus c h = grind (arith, tests)
 
-first_true : (a b : Bool) → (a && b) ≡ true → a ≡ true
-first_true true b h = refl
-first_true false b h = h
-
-second_true : (a b : Bool) → (a && b) ≡ true → b ≡ true
-second_true true b h = h
-second_true false b h = cc
-
 digits : (text : List ℕ) → list_all is_ascii_digit text ≡ true → AllDigits 10 text
 digits [] h = tt
 digits (c ∷ cs) h =
-    (digit_small c (first_true (is_ascii_digit c) (list_all is_ascii_digit cs) h), digits cs (second_true (is_ascii_digit c) (list_all is_ascii_digit cs) h))
+    (digit_small c (first_of_both (is_ascii_digit c) (list_all is_ascii_digit cs) h), digits cs (second_of_both (is_ascii_digit c) (list_all is_ascii_digit cs) h))
 
 -- a numeral, by its first digit
 pub record IsSpelled (text : List ℕ) : Type 0 where
@@ -49,7 +42,7 @@ spelled (c ∷ cs) h =
     record {
       all = all;
       some = omega arith;
-      plain = without_leading_plus_none (c ∷ cs) (digit_no_plus c (first_true (is_ascii_digit c) (list_all is_ascii_digit cs) all));
+      plain = without_leading_plus_none (c ∷ cs) (digit_no_plus c (first_of_both (is_ascii_digit c) (list_all is_ascii_digit cs) all));
     }
 
 below_none : (bound n : ℕ) → ¬ (n < bound) → below bound n ≡ None

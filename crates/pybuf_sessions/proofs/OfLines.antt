@@ -4,6 +4,7 @@ use Rattle.std.specs.Prelude.{Option, Some, None, Result, Ok, Err, slice_get}
 use Rattle.std.specs.List.{AllByRecursion, sum_by}
 use Rattle.std.proofs.lemmas.List.Elements.{All-from_recursion}
 use Rattle.std.proofs.lemmas.List.Sums.{sum_by-cons}
+use Rattle.pybuf_lemmas.proofs.Numbers.{passed_numbers_are_equal}
 use Rattle.pybuf_command.specs.declared.commands.LocalCommand.{LocalCommand}
 use Rattle.pybuf_line.specs.Lines.{lines}
 use Rattle.pybuf_share.specs.History.{Opening}
@@ -88,12 +89,6 @@ as_long false c script h = refl
 is_other : (n k : ℕ) → n ≢ k → (n == k) ≡ false
 is_other n k h = grind (arith, tests)
 
-is_same : (n k : ℕ) → n ≡ k → (n == k) ≡ true
-is_same n k h = grind (arith, tests)
-
-same_number : (n k : ℕ) → (n == k) ≡ true → n ≡ k
-same_number n k h = grind (arith, tests)
-
 other_number : (n k : ℕ) → (n == k) ≡ false → n ≢ k
 other_number n k h = grind (arith, tests)
 
@@ -108,7 +103,7 @@ total_more_if : (a : Ask) (asks : List Ask) (j n : ℕ) (is : Bool) → (a.sessi
     (j < a.session → total (script_of (a ∷ asks)) (suc j) n ≡ total (script_of asks) (suc j) n + 1) →
     total (script_of (a ∷ asks)) j (suc n) ≡ total (script_of asks) j (suc n) + 1
 total_more_if a asks j n true e low high later =
-    let here : a.session ≡ j = same_number a.session j e in
+    let here : a.session ≡ j = passed_numbers_are_equal a.session j e in
     let first = longer (a.session == j) a.command (script_of asks j) e in
     let rest = total_same a asks (suc j) n (omega (arith, here)) in
     omega (arith, first, rest)

@@ -1,8 +1,9 @@
 -- Pieces of a text that are put one after the other, and how far that is done.
-use Rattle.std.proofs.Common.{◌≡◌, ◌≢◌, ℕ, ◌+◌, ◌-◌, ◌<◌, ◌≤◌, Bool, true, false, not, cond, ◌==◌, ◌&&◌, ◌||◌, List, [], ◌∷◌, ◌++◌, length, take, drop, get_or, refl, sym, ◌∙◌, ap, arith, tests, length-append}
+use Rattle.std.proofs.Common.{◌≡◌, ℕ, ◌+◌, ◌-◌, ◌<◌, ◌≤◌, Bool, true, false, not, cond, ◌==◌, ◌&&◌, ◌||◌, List, [], ◌∷◌, ◌++◌, length, take, drop, get_or, refl, sym, ◌∙◌, ap, arith, tests, length-append}
 use Rattle.std.specs.Prelude.{Option, Some, None}
 use Rattle.std.specs.List.{list_any, onto_first}
-use Rattle.std.proofs.lemmas.List.{append_assoc, append-nil, drop_more, drop_all, take_more, get_or-drop, length-drop}
+use Rattle.std.proofs.lemmas.List.{append_assoc, append-nil, drop_more, drop_all}
+use Rattle.pybuf_lemmas.proofs.Lists.{part_grows_by_one}
 use Rattle.pybuf_command.specs.declared.kinds.Subject.{Subject}
 use Rattle.pybuf_command.specs.declared.loans.Loan.{Loan}
 use Rattle.pybuf_sessions.specs.Names.{name_in}
@@ -36,17 +37,6 @@ onto_none quoted [] = refl
 onto_none quoted (b ∷ rest) =
     onto_none_if (b == 39) (is_mark b && not quoted) b (pieces_from (not quoted) rest) ((b ∷ []) ∷ pieces_from quoted rest) (pieces_from quoted rest)
 
--- the bytes of the piece that is begun, with one more
-begun_more : (text : List ℕ) (start i : ℕ) → start ≤ i → i < length text →
-    take (i + 1 - start) (drop start text) ≡ take (i - start) (drop start text) ++ get_or text i 0 ∷ []
-begun_more text start i within here =
-    let inside : i - start < length (drop start text) = omega (arith, length-drop start text) in
-    let more = take_more (drop start text) (i - start) 0 inside in
-    let n : i + 1 - start ≡ i - start + 1 = omega arith in
-    let m : start + (i - start) ≡ i = omega arith in
-    ap (λ k. take k (drop start text)) n
-    ∙ (more ∙ ap (λ b. take (i - start) (drop start text) ++ b ∷ []) (get_or-drop start text (i - start) 0 ∙ ap (λ k. get_or text k 0) m))
-
 -- what is left to put: the piece that is begun, and then the pieces of the rest
 abbrev pub left_from : List ℕ → ℕ → ℕ → Bool → List (List ℕ)
 left_from text start i quoted = onto_begun (take (i - start) (drop start text)) (pieces_from quoted (drop i text))
@@ -69,7 +59,7 @@ quote_left text start i quoted within here e =
     ap (λ rest. onto_begun begun (pieces_from quoted rest)) (drop_more text i 0 here)
     ∙ (ap (onto_begun begun) (quote_on (get_or text i 0) quoted (drop (i + 1) text) e)
     ∙ (onto_byte begun (get_or text i 0) (pieces_from (not quoted) (drop (i + 1) text))
-    ∙ ap (λ l. onto_begun l (pieces_from (not quoted) (drop (i + 1) text))) (sym (begun_more text start i within here))))
+    ∙ ap (λ l. onto_begun l (pieces_from (not quoted) (drop (i + 1) text))) (sym (part_grows_by_one text start i within here))))
 
 pub other_left : (text : List ℕ) (start i : ℕ) (quoted : Bool) → start ≤ i → i < length text →
     (get_or text i 0 == 39) ≡ false → (is_mark (get_or text i 0) && not quoted) ≡ false →
@@ -79,7 +69,7 @@ other_left text start i quoted within here q m =
     ap (λ rest. onto_begun begun (pieces_from quoted rest)) (drop_more text i 0 here)
     ∙ (ap (onto_begun begun) (other_on (get_or text i 0) quoted (drop (i + 1) text) q m)
     ∙ (onto_byte begun (get_or text i 0) (pieces_from quoted (drop (i + 1) text))
-    ∙ ap (λ l. onto_begun l (pieces_from quoted (drop (i + 1) text))) (sym (begun_more text start i within here))))
+    ∙ ap (λ l. onto_begun l (pieces_from quoted (drop (i + 1) text))) (sym (part_grows_by_one text start i within here))))
 
 pub mark_left : (text : List ℕ) (start i : ℕ) (quoted : Bool) → start ≤ i → i < length text →
     (get_or text i 0 == 39) ≡ false → (is_mark (get_or text i 0) && not quoted) ≡ true →
@@ -103,9 +93,6 @@ end_left text start i quoted done =
 pub left_same : (text : List ℕ) (start start2 i : ℕ) (quoted quoted2 : Bool) → start2 ≡ start → quoted2 ≡ quoted →
     left_from text start i quoted ≡ left_from text start2 i quoted2
 left_same text start start2 i quoted quoted2 e1 e2 = cc
-
-pub no_quote : (b : ℕ) → b ≢ 39 → (b == 39) ≡ false
-no_quote b h = grind (arith, tests)
 
 -- ---- pieces, one by one
 

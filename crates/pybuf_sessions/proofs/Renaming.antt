@@ -3,6 +3,8 @@ use Rattle.std.proofs.Common.{◌≡◌, ℕ, ◌+◌, Bool, true, false, not, �
 use Rattle.std.specs.Prelude.{Option, Some, None}
 use Rattle.std.specs.List.{list_any, list_all, onto_first}
 use Rattle.std.proofs.lemmas.List.{append_assoc, append-nil, map-append}
+use Rattle.pybuf_lemmas.proofs.Lists.{first_of_all, rest_of_all}
+use Rattle.pybuf_lemmas.proofs.Booleans.{and_not_true}
 use Rattle.pybuf_value.specs.Spelling.{handle_text}
 use Rattle.pybuf_command.specs.declared.kinds.Subject.{Subject}
 use Rattle.pybuf_command.specs.declared.loans.Loan.{Loan}
@@ -131,12 +133,6 @@ plain_no_quote b h = grind (arith, tests)
 plain_no_mark : (b : ℕ) → is_plain b ≡ true → (is_mark b && not false) ≡ false
 plain_no_mark b h = grind (arith, tests)
 
-pub first_plain : (p : ℕ → Bool) (x : ℕ) (xs : List ℕ) → list_all p (x ∷ xs) ≡ true → p x ≡ true
-first_plain p x xs h = grind (arith, tests)
-
-pub rest_plain : (p : ℕ → Bool) (x : ℕ) (xs : List ℕ) → list_all p (x ∷ xs) ≡ true → list_all p xs ≡ true
-rest_plain p x xs h = grind (arith, tests)
-
 byte_in_front : (b : ℕ) (a : List ℕ) (all : List (List ℕ)) → onto_first b (onto_begun a all) ≡ onto_begun (b ∷ a) all
 byte_in_front b a [] = refl
 byte_in_front b a (piece ∷ more) = refl
@@ -148,13 +144,9 @@ one_in_front b (piece ∷ more) = refl
 pub plain_whole : (text : List ℕ) → IsPlain text → IsWhole text
 plain_whole [] h rest = sym (onto_none false rest)
 plain_whole (x ∷ a) h rest =
-    let first = first_plain is_plain x a h in
+    let first = first_of_all is_plain x a h in
     other_on x false (a ++ rest) (plain_no_quote x first) (plain_no_mark x first)
-    ∙ (ap (onto_first x) (plain_whole a (rest_plain is_plain x a h) rest) ∙ byte_in_front x a (pieces_from false rest))
-
-never : (b : Bool) → (b && not true) ≡ false
-never true = refl
-never false = refl
+    ∙ (ap (onto_first x) (plain_whole a (rest_of_all is_plain x a h) rest) ∙ byte_in_front x a (pieces_from false rest))
 
 -- The byte is no quote.
 abbrev pub is_unquoted : ℕ → Bool
@@ -166,8 +158,8 @@ unquoted b h = grind (arith, tests)
 to_quote : (t rest : List ℕ) → list_all is_unquoted t ≡ true → pieces_from true (t ++ 39 ∷ rest) ≡ onto_begun (t ++ 39 ∷ []) (pieces_from false rest)
 to_quote [] rest h = quote_on 39 true rest refl ∙ one_in_front 39 (pieces_from false rest)
 to_quote (x ∷ t) rest h =
-    other_on x true (t ++ 39 ∷ rest) (unquoted x (first_plain is_unquoted x t h)) (never (is_mark x))
-    ∙ (ap (onto_first x) (to_quote t rest (rest_plain is_unquoted x t h)) ∙ byte_in_front x (t ++ 39 ∷ []) (pieces_from false rest))
+    other_on x true (t ++ 39 ∷ rest) (unquoted x (first_of_all is_unquoted x t h)) (and_not_true (is_mark x))
+    ∙ (ap (onto_first x) (to_quote t rest (rest_of_all is_unquoted x t h)) ∙ byte_in_front x (t ++ 39 ∷ []) (pieces_from false rest))
 
 pub quoted_whole : (t : List ℕ) → list_all is_unquoted t ≡ true → IsWhole (39 ∷ t ++ 39 ∷ [])
 quoted_whole t h rest =

@@ -3,10 +3,13 @@ use Rattle.std.proofs.Common.{◌≡◌, ℕ, zero, suc, ◌/◌, ◌%◌, ◌<�
 use Rattle.std.specs.Prelude.{Option, Some, None}
 use Rattle.std.specs.List.{list_any, list_all, onto_first, flat_map, join_with_byte, AllByRecursion}
 use Rattle.std.specs.Char.{is_ascii_digit, digit_value}
-use Rattle.std.specs.Str.Parse.{AllDigits, digits_value}
+use Rattle.std.specs.Str.Parse.{AllDigits}
 use Rattle.std.proofs.lemmas.List.{append_assoc, append-nil}
 use Rattle.std.proofs.lemmas.Str.Parse.{digit_from_value}
 use Rattle.std.proofs.lemmas.Fmt.{decimal_is_IsNumeral_wide, length-decimal-le}
+use Rattle.pybuf_lemmas.proofs.Numbers.{value_below_ten_is_digit, unbroken_is_no_blank}
+use Rattle.pybuf_lemmas.proofs.Lists.{first_of_all, rest_of_all}
+use Rattle.pybuf_line.specs.Facts.{number_read, each_text_byte, spelled_part}
 use Rattle.hex.specs.Hex.{lower_digits, encode_with, encode_lower}
 use Rattle.pybuf_value.specs.Spelling.{handle_text}
 use Rattle.pybuf_value.specs.declared.values.Scalar.{Scalar}
@@ -32,17 +35,17 @@ use Rattle.pybuf_line.specs.declared.words.Word.{Word}
 use Rattle.pybuf_line.specs.declared.words.Word.TheVariants as word
 use Rattle.pybuf_line.specs.Words.{words, written_word, written_operator, written_name}
 use Rattle.pybuf_line.specs.Methods.{written_method}
-use Rattle.pybuf_line.specs.Scalars.{is_number, number_below, handle_in, is_text_byte, written_scalar}
+use Rattle.pybuf_line.specs.Scalars.{number_below, handle_in, is_text_byte, written_scalar}
 use Rattle.pybuf_line.specs.Spellings.{written_slice, written_parts, written_value}
 use Rattle.pybuf_line.specs.Commands.{word_of, values_of, written_values, written_arguments, written_command, command_in}
-use Rattle.pybuf_line.specs.Laws.{IsSpelled, IsSlicePart, IsSpelledSlice, IsSpelledValue, AreSpelledValues, IsSpelledVerb, CommandsReadBack}
+use Rattle.pybuf_line.specs.Laws.{IsSpelled, IsSpelledSlice, IsSpelledValue, AreSpelledValues, IsSpelledVerb, CommandsReadBack}
 use Rattle.pybuf_sessions.specs.Names.{name_in, name_text}
 use Rattle.pybuf_sessions.specs.Pieces.{is_mark, pieces, is_handle, handled_from, loans_from}
 use Rattle.pybuf_sessions.specs.Asks.{session_in, local_command_in, rest_text, ask_of_words, ask_in}
 use Rattle.pybuf_sessions.specs.Sessions.{opening_of, opening_in}
 use Rattle.pybuf_sessions.specs.Laws.{IsCounted, AreNumbered, lent_by, written_line, SessionLinesReadBack, OpeningsReadBack}
 use Rattle.pybuf_sessions.proofs.Blanks.{words_text}
-use Rattle.pybuf_sessions.proofs.Renaming.{outcome, behind, IsBehind, next_number, Comes, nothing_comes, numbered_first, numbered_second, both_come, before_comes, joined_come, after_comes, is_plain, IsPlain, first_plain, rest_plain, plain_whole, is_unquoted, quoted_whole, piece_comes, name_comes}
+use Rattle.pybuf_sessions.proofs.Renaming.{outcome, behind, IsBehind, next_number, Comes, nothing_comes, numbered_first, numbered_second, both_come, before_comes, joined_come, after_comes, is_plain, IsPlain, plain_whole, is_unquoted, quoted_whole, piece_comes, name_comes}
 
 -- ---- digits
 
@@ -52,20 +55,6 @@ digit_plain c h = let r = digit_from_value c h in grind (arith, tests, r)
 digits_plain : (ds : List ℕ) → AllDigits 10 ds → IsPlain ds
 digits_plain [] h = refl
 digits_plain (c ∷ cs) h = rw (digit_plain c h.0, digits_plain cs h.1) refl
-
-digit_test : (c : ℕ) → digit_value c < 10 → is_ascii_digit c ≡ true
-digit_test c h = let r = digit_from_value c h in grind (arith, tests, r)
-
-digits_test : (ds : List ℕ) → AllDigits 10 ds → list_all is_ascii_digit ds ≡ true
-digits_test [] h = refl
-digits_test (c ∷ cs) h = rw (digit_test c h.0, digits_test cs h.1) refl
-
-numeral_test : (ds : List ℕ) → 0 < length ds → AllDigits 10 ds → is_number ds ≡ true
-numeral_test [] h all = absurd (omega arith)
-numeral_test (c ∷ cs) h all = let t = digits_test (c ∷ cs) all in grind (arith, tests, t)
-
-number_read : (bound n : ℕ) (ds : List ℕ) → 0 < length ds → AllDigits 10 ds → digits_value 10 ds ≡ n → n < bound → number_below bound ds ≡ Some n
-number_read bound n ds some all e h = rw (numeral_test ds some all, e) (grind (arith, tests))
 
 decimal_read : (bound n : ℕ) → n < bound → bound ≤ 2 ^ 64 → number_below bound (decimal n) ≡ Some n
 decimal_read bound n h most =
@@ -85,7 +74,7 @@ digit_no_handle c cs h = grind (arith, tests)
 digits_come : (named : ℕ → Subject) (n : ℕ) (ds : List ℕ) → 0 < length ds → AllDigits 10 ds → Comes named n [] ds ds
 digits_come named n [] some all = absurd (omega (arith, some))
 digits_come named n (c ∷ cs) some all =
-    let d = digit_test c all.0 in
+    let d = value_below_ten_is_digit c all.0 in
     piece_comes named n (c ∷ cs) (plain_whole (c ∷ cs) (digits_plain (c ∷ cs) all)) (digit_no_handle c cs d) (digit_no_name c cs d)
 
 decimal_comes : (named : ℕ → Subject) (n k : ℕ) → k < 10 ^ 64 → Comes named n [] (decimal k) (decimal k)
@@ -113,8 +102,8 @@ counted_no_handle (subject.Iter k) = refl
 -- a hexadecimal digit
 digit_there : (xs : List ℕ) (k : ℕ) → IsPlain xs → is_plain (slice_index xs k) ≡ true
 digit_there [] k h = refl
-digit_there (x ∷ xs) zero h = first_plain is_plain x xs h
-digit_there (x ∷ xs) (suc k) h = digit_there xs k (rest_plain is_plain x xs h)
+digit_there (x ∷ xs) zero h = first_of_all is_plain x xs h
+digit_there (x ∷ xs) (suc k) h = digit_there xs k (rest_of_all is_plain x xs h)
 
 encoded_plain : (bs : List ℕ) → IsPlain (encode_lower bs)
 unfolding encode_with
@@ -126,10 +115,7 @@ text_byte b h = grind (arith, tests)
 
 text_unquoted : (t : List ℕ) → list_all is_text_byte t ≡ true → list_all is_unquoted t ≡ true
 text_unquoted [] h = refl
-text_unquoted (x ∷ xs) h = rw (text_byte x (first_plain is_text_byte x xs h), text_unquoted xs (rest_plain is_text_byte x xs h)) refl
-
-each_text_byte : (t : List ℕ) → IsSpelled (scalar.Text t) → list_all is_text_byte t ≡ true
-each_text_byte t h = grind (arith, tests)
+text_unquoted (x ∷ xs) h = rw (text_byte x (first_of_all is_text_byte x xs h), text_unquoted xs (rest_of_all is_text_byte x xs h)) refl
 
 abbrev pub name_of : (ℕ → Subject) → ℕ → List ℕ
 name_of named = λ h. name_text (named h)
@@ -152,15 +138,6 @@ scalar_comes named all n scalar.Ellipsis h k = constant_comes named n (codes "..
 scalar_comes named all n (scalar.Handle handle) h k =
     subst (λ x. Comes named n (x ∷ []) (name_text (named x)) (handle_text x)) (sym k.0)
     (name_comes named n (named n) refl (counted_plain (named n) (all n)) (counted_no_handle (named n)) (counted_read (named n) (all n)))
-
-spelled_part : (s : Scalar) → IsSlicePart s → IsSpelled s
-spelled_part scalar.None h = h
-spelled_part (scalar.Bool truth) h = h
-spelled_part (scalar.Int number) h = h
-spelled_part (scalar.Text text) h = absurd h
-spelled_part (scalar.Bytes bytes) h = h
-spelled_part scalar.Ellipsis h = h
-spelled_part (scalar.Handle handle) h = h
 
 slice_comes : (named : ℕ → Subject) → ((h : ℕ) → IsCounted (named h)) → (n : ℕ) (s : PySlice) → IsSpelledSlice s → AreNumbered n (handles_in_slice s) →
     Comes named n (handles_in_slice s) (written_slice (name_of named) s) (written_slice handle_text s)
@@ -327,27 +304,24 @@ arguments_come named each v h k = values_by named each (values_of v) (handles_of
 abbrev is_unbroken : ℕ → Bool
 is_unbroken b = not (b == 32)
 
-no_blank : (x : ℕ) → is_unbroken x ≡ true → (x == 32) ≡ false
-no_blank x h = grind (arith, tests)
-
 byte_on : (x : ℕ) (text : List ℕ) → is_unbroken x ≡ true → words (x ∷ text) ≡ onto_first x (words text)
-byte_on x text h = ap (λ cut. cond cut ([] ∷ words text) (onto_first x (words text))) (no_blank x h)
+byte_on x text h = ap (λ cut. cond cut ([] ∷ words text) (onto_first x (words text))) (unbroken_is_no_blank x h)
 
 blank_cuts : (a rest : List ℕ) → list_all is_unbroken a ≡ true → words (a ++ 32 ∷ rest) ≡ a ∷ words rest
 blank_cuts [] rest h = refl
 blank_cuts (x ∷ a) rest h =
-    byte_on x (a ++ 32 ∷ rest) (first_plain is_unbroken x a h) ∙ ap (onto_first x) (blank_cuts a rest (rest_plain is_unbroken x a h))
+    byte_on x (a ++ 32 ∷ rest) (first_of_all is_unbroken x a h) ∙ ap (onto_first x) (blank_cuts a rest (rest_of_all is_unbroken x a h))
 
 nothing_cuts : (a : List ℕ) → list_all is_unbroken a ≡ true → words a ≡ a ∷ []
 nothing_cuts [] h = refl
-nothing_cuts (x ∷ a) h = byte_on x a (first_plain is_unbroken x a h) ∙ ap (onto_first x) (nothing_cuts a (rest_plain is_unbroken x a h))
+nothing_cuts (x ∷ a) h = byte_on x a (first_of_all is_unbroken x a h) ∙ ap (onto_first x) (nothing_cuts a (rest_of_all is_unbroken x a h))
 
 plain_byte : (b : ℕ) → is_plain b ≡ true → is_unbroken b ≡ true
 plain_byte b h = grind (arith, tests)
 
 plain_unbroken : (text : List ℕ) → IsPlain text → list_all is_unbroken text ≡ true
 plain_unbroken [] h = refl
-plain_unbroken (x ∷ xs) h = rw (plain_byte x (first_plain is_plain x xs h), plain_unbroken xs (rest_plain is_plain x xs h)) refl
+plain_unbroken (x ∷ xs) h = rw (plain_byte x (first_of_all is_plain x xs h), plain_unbroken xs (rest_of_all is_plain x xs h)) refl
 
 word_unbroken : (w : Word) → list_all is_unbroken (written_word w) ≡ true
 word_unbroken word.New = refl

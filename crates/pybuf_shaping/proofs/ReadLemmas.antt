@@ -1,5 +1,5 @@
 -- Digits that are read pair by pair.
-use Rattle.std.proofs.Common.{◌≡◌, refl, sym, ap, ◌∙◌, ℕ, ◌<◌, ◌+◌, ◌*◌, ◌/◌, ◌%◌, List, [], ◌∷◌, ◌++◌, Result, Ok, Err, Some, None, Bool, true, false, not, cond, length, get_or, take, drop, eq-eqb, slice_index, inl, inr, ◌==◌, arith}
+use Rattle.std.proofs.Common.{◌≡◌, refl, sym, ap, ◌∙◌, ℕ, ◌<◌, ◌+◌, ◌*◌, ◌/◌, ◌%◌, List, [], ◌∷◌, ◌++◌, Result, Ok, Err, Some, None, true, false, not, cond, length, get_or, take, drop, eq-eqb, slice_index, inl, inr, ◌==◌, arith}
 use Rattle.std.specs.Prelude.{is_some}
 use Rattle.std.proofs.lemmas.Bool.{cases_eq, false≢true, lt-ltb, le-ltb}
 use Rattle.std.proofs.lemmas.Bool.Decides.{nat_tests}
@@ -7,6 +7,7 @@ use Rattle.std.specs.List.{All, flat_map}
 use Rattle.std.proofs.lemmas.List.{append_assoc, drop_more, take_at, drop_at}
 use Rattle.std.proofs.lemmas.List.Sums.{AllPass-from_list_all}
 use Rattle.std.proofs.lemmas.List.Elements.{All-head, All-tail, All-same, All-take, All-drop, filter-append}
+use Rattle.pybuf_lemmas.proofs.Booleans.{false_if_not_true}
 use Rattle.hex.specs.Hex.{encode_with, encode_lower, hex_digit_value, is_hex_digit, lower_digits}
 use Rattle.hex.proofs.HexLemmas.{IsDigits-lower_digits}
 use Rattle.pybuf_value.specs.declared.faults.Fault.{Fault}
@@ -89,12 +90,8 @@ byte_of_values c d high low one other small less =
 
 -- ---- the digits of bytes are read as the bytes
 
-denied : (b : Bool) → not b ≡ true → b ≡ false
-denied false h = refl
-denied true h = cc h
-
 no_blank : (d : ℕ) → d < 16 → is_blank (slice_index lower_digits d) ≡ false
-no_blank d small = denied (is_blank (slice_index lower_digits d)) (AllPass-from_list_all (λ c. not (is_blank c)) lower_digits refl d 0 small)
+no_blank d small = false_if_not_true (is_blank (slice_index lower_digits d)) (AllPass-from_list_all (λ c. not (is_blank c)) lower_digits refl d 0 small)
 
 digits_of : (b : ℕ) → b < 256 → byte_of_digits (hex_digit_value (slice_index lower_digits (b / 16))) (hex_digit_value (slice_index lower_digits (b % 16))) ≡ Ok b
 digits_of b small =

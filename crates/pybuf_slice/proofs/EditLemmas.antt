@@ -1,22 +1,17 @@
 -- What is left without the places of an index list, place by place.
 use Rattle.std.proofs.Common.{◌≡◌, ◌≢◌, ℕ, zero, suc, ◌+◌, ◌-◌, ◌*◌, ◌<◌, ◌≤◌, true, false, List, [], ◌∷◌, ◌++◌, length, refl, ap, sym, ◌∙◌, arith, inl, inr, ◌⊎◌, ℤ, pos, negsuc, take, drop, set, get_or, append-nil, length-take, length-drop, length-set, take-append-drop}
-use Rattle.std.specs.Prelude.{Bool, All, reverse, if◌then◌else◌, ◌==◌}
+use Rattle.std.specs.Prelude.{Bool, All, reverse, if◌then◌else◌}
 use Rattle.std.specs.List.Sorted.{IsStrictlyIncreasing}
 use Rattle.std.specs.List.{swap}
 use Rattle.std.proofs.lemmas.Bool.{cases_lt}
-use Rattle.std.proofs.lemmas.Bool.Decides.{nat_tests}
 use Rattle.std.proofs.lemmas.List.{take_more, take_more_set, take-set, take-set-le, drop-set-lt, get_or_default, reverse-append}
 use Rattle.std.proofs.lemmas.List.Elements.{All-head, All-tail, All-same, All-append, All-cons, All-nil}
+use Rattle.pybuf_slice.specs.Facts.{has_head, has_other, has_reverse}
+use Rattle.pybuf_index.specs.Facts.{how_many_one}
 use Rattle.pybuf_index.specs.Runs.{rising, how_many, picks_in_span}
 use Rattle.pybuf_index.specs.Laws.{EachSpan, SpanPicksAre}
 use Rattle.pybuf_slice.specs.Edits.{has, off_from, elements_off, IsRisingFrom, replaced_range}
-use Rattle.pybuf_slice.proofs.ReadLemmas.{down_moves, how_many_one, run_by_one}
-
-pub has_head : (i : ℕ) (r : List ℕ) (q : ℕ) → i ≡ q → has (i ∷ r) q ≡ true
-has_head i r q e = grind (arith, nat_tests)
-
-pub has_other : (i : ℕ) (r : List ℕ) (q : ℕ) → i ≢ q → has (i ∷ r) q ≡ has r q
-has_other i r q e = grind (arith, nat_tests)
+use Rattle.pybuf_slice.proofs.ReadLemmas.{down_moves, run_by_one}
 
 -- ---- index lists
 
@@ -206,28 +201,6 @@ length_swap {X} (x ∷ ys) i j =
     length-set (set xs i (get_or xs j x)) j (get_or xs i x) ∙ length-set xs i (get_or xs j x)
 
 -- ---- the order of an index list
-
-either_way : (a b c : Bool) → (if a then true else (if b then true else c)) ≡ (if (if a then true else b) then true else c)
-either_way true b c = refl
-either_way false b c = refl
-
-has_append : (xs ys : List ℕ) (q : ℕ) → has (xs ++ ys) q ≡ (if has xs q then true else has ys q)
-has_append [] ys q = refl
-has_append (x ∷ xs) ys q = rw (has_append xs ys q) (either_way (x == q) (has xs q) (has ys q))
-
-other_way : (a b : Bool) → (if a then true else (if b then true else false)) ≡ (if b then true else a)
-other_way true true = refl
-other_way true false = refl
-other_way false true = refl
-other_way false false = refl
-
-pub has_reverse : (xs : List ℕ) (q : ℕ) → has (reverse xs) q ≡ has xs q
-has_reverse [] q = refl
-has_reverse (x ∷ xs) q =
-    ap (λ (us : List ℕ). has us q) (reverse-append (x ∷ []) xs)
-    ∙ has_append (reverse xs) (x ∷ []) q
-    ∙ ap (λ b. if b then true else has (x ∷ []) q) (has_reverse xs q)
-    ∙ other_way (has xs q) (x == q)
 
 pub all_reverse : (P : ℕ → Type 0) (xs : List ℕ) → All P xs → All P (reverse xs)
 all_reverse P [] all = all

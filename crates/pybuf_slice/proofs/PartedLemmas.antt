@@ -5,6 +5,7 @@ use Rattle.std.specs.List.{cons_option, filter_map}
 use Rattle.std.proofs.lemmas.Bool.{cases_lt}
 use Rattle.std.proofs.lemmas.List.{reverse-append, reverse-reverse}
 use Rattle.std.proofs.lemmas.List.Elements.{All-head, All-tail, All-same, filter_map-append}
+use Rattle.pybuf_slice.specs.Facts.{has_head, has_other, has_reverse}
 use Rattle.pybuf_index.specs.Parts.{SliceParts, picks_of}
 use Rattle.pybuf_index.specs.Runs.{rising, how_many, picks_in_span, span_start, span_end}
 use Rattle.pybuf_index.specs.Laws.{EachSpan, SpanPicksAre, SlicesHaveSpans}
@@ -12,7 +13,7 @@ use Rattle.pybuf_slice.specs.Reads.{elements_at}
 use Rattle.pybuf_slice.specs.Edits.{has, off_from, elements_off, IsRisingFrom}
 use Rattle.pybuf_slice.specs.EditLaws.{marked_elements, unmarked_elements, AreParted, SlicePartsList}
 use Rattle.pybuf_slice.proofs.ReadLemmas.{below_end}
-use Rattle.pybuf_slice.proofs.EditLemmas.{has_head, has_other, has_below, rising_lower, has_reverse, all_reverse}
+use Rattle.pybuf_slice.proofs.EditLemmas.{has_below, rising_lower, all_reverse}
 
 -- for each element, whether its place is on the index list
 abbrev flags : {X : Type 0} → ℕ → List X → List ℕ → List Bool

@@ -1,13 +1,11 @@
 -- Reads by indices, and what is read at the indices of a span.
-use Rattle.std.proofs.Common.{◌≡◌, ◌≢◌, ℕ, zero, suc, ◌+◌, ◌-◌, ◌/◌, ◌^◌, ◌<◌, ◌≤◌, Bool, true, false, List, [], ◌∷◌, ◌++◌, length, ℤ, pos, negsuc, refl, ap, sym, ◌∙◌, arith, inl, inr, Option, Some, get_or, take, drop, append_assoc, of_z}
+use Rattle.std.proofs.Common.{◌≡◌, ◌≢◌, ℕ, zero, suc, ◌+◌, ◌-◌, ◌^◌, ◌<◌, ◌≤◌, Bool, true, false, List, [], ◌∷◌, ◌++◌, length, ℤ, pos, negsuc, refl, ap, sym, ◌∙◌, arith, Option, Some, get_or, take, drop, append_assoc, of_z}
 use Rattle.std.specs.Prelude.{FitsSigned, slice_get, slice_range, All}
 use Rattle.std.specs.Int.{w64}
 use Rattle.std.specs.List.{cons_option}
 use Rattle.std.proofs.lemmas.Int.{ints}
-use Rattle.std.proofs.lemmas.Bool.{cases_lt}
-use Rattle.std.proofs.lemmas.Bool.Decides.{nat_tests}
 use Rattle.std.proofs.lemmas.List.Elements.{All-head, All-same, All-rest, All-weaker}
-use Rattle.std.proofs.Math.Nat.{div-one}
+use Rattle.pybuf_index.specs.Facts.{how_many_one, length-rising}
 use Rattle.pybuf_index.specs.Runs.{rising, how_many, picks_in_span, signed_step}
 use Rattle.pybuf_index.specs.Laws.{EachSpan, SpanPicksAre}
 use Rattle.pybuf_slice.specs.Reads.{elements_at}
@@ -31,28 +29,11 @@ stride_inside spans n low high (suc t) true some h = below_end n low high (picks
 
 -- ---- a step of 1
 
-how_many_none : (low high stride : ℕ) → high ≤ low → how_many low high stride ≡ 0
-how_many_none low high stride h = grind (arith, nat_tests)
-
-how_many_some : (low high stride : ℕ) → low < high → how_many low high stride ≡ (high - low - 1) / stride + 1
-how_many_some low high stride h = grind (arith, nat_tests)
-
-pub how_many_one : (low high : ℕ) → how_many low high 1 ≡ high - low
-how_many_one low high =
-    elim (cases_lt low high) [
-      | inl under ↦ rw (how_many_some low high 1 under, div-one (high - low - 1)) (omega arith)
-      | inr over ↦ rw (how_many_none low high 1 over) (omega arith)
-    ]
-
 -- A step of 1 picks the places of the span, in order.
 pub run_by_one : (spans : EachSpan SpanPicksAre) (low high : ℕ) (step : ℤ) → step ≡ pos 1 → picks_in_span low high step ≡ rising low 1 (high - low)
 run_by_one spans low high step one =
     let run : picks_in_span low high (pos 1) ≡ rising low 1 (how_many low high 1) = (spans low high (pos 1) (up_moves 0)).run in
     ap (picks_in_span low high) one ∙ run ∙ ap (rising low 1) (how_many_one low high)
-
-length-rising : (k low s : ℕ) → length (rising low s k) ≡ k
-length-rising zero low s = refl
-length-rising (suc k) low s = ap suc (length-rising k (low + s) s)
 
 pub length_by_one : (spans : EachSpan SpanPicksAre) (low high : ℕ) (step : ℤ) → step ≡ pos 1 → length (picks_in_span low high step) ≡ high - low
 length_by_one spans low high step one = ap length (run_by_one spans low high step one) ∙ length-rising (high - low) low 1

@@ -3,3 +3,4 @@ pub mod Edits
 pub mod EditLaws
 pub mod FrontContent
 pub mod Front
+pub mod Facts

@@ -1,14 +1,11 @@
 -- How many items a shape has once one more entry is counted.
-use Rattle.std.proofs.Common.{◌≡◌, ℕ, zero, suc, ◌+◌, ◌*◌, ◌<◌, ◌≤◌, List, [], ◌∷◌, ◌++◌, length, take, get_or, ap, sym, ◌∙◌, arith, min, ◌⊎◌, inl, inr}
+use Rattle.std.proofs.Common.{◌≡◌, ℕ, zero, suc, ◌+◌, ◌*◌, ◌<◌, ◌≤◌, List, length, take, get_or, ap, sym, ◌∙◌, arith, min, ◌⊎◌, inl, inr}
 use Rattle.std.proofs.Math.Nat.{mul_assoc, mul-zero, min-eq_left, min-eq_right, le_refl, le_trans, le-mul_of_pos_right}
 use Rattle.std.proofs.lemmas.Bool.{cases_lt}
 use Rattle.std.proofs.lemmas.List.{take_more}
+use Rattle.pybuf_desc.specs.Facts.{product-push}
 use Rattle.pybuf_desc.specs.Layouts.{product}
 use Rattle.pybuf_memoryview.specs.Sized.{byte_count}
-
-pub product-push : (shape : List ℕ) (n : ℕ) → product (shape ++ n ∷ []) ≡ product shape * n
-product-push [] n = omega arith
-product-push (m ∷ shape) n = ap (λ k. m * k) (product-push shape n) ∙ sym (mul_assoc m (product shape) n)
 
 past : (a n most : ℕ) → most ≤ a → min (a * suc n) most ≡ most
 past a n most over = min-eq_right (le_trans over (le-mul_of_pos_right a (omega arith)))

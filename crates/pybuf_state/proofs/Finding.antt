@@ -1,32 +1,18 @@
 -- Views that are found by their number.
 use Rattle.std.proofs.Common.{◌≡◌, ℕ, zero, suc, List, [], ◌∷◌, ◌++◌, Bool, true, false, sym, ◌∙◌, refl, subst}
-use Rattle.std.specs.Prelude.{set, Option, Some, None, Result, Ok, Err, slice_get}
-use Rattle.std.specs.List.{All}
-use Rattle.std.specs.Option.{ok_or}
-use Rattle.std.proofs.lemmas.Option.{slice_get_within, get_or_from_slice_get}
+use Rattle.std.specs.Prelude.{set, Some, None, Result, Ok, Err, slice_get}
+use Rattle.pybuf_state.specs.Facts.{view_given, no_view_given}
 use Rattle.pybuf_value.specs.declared.faults.Fault.{Fault}
 use Rattle.pybuf_value.specs.declared.faults.Fault.TheVariants as fault
 use Rattle.pybuf_value.specs.Refusing.{◌>>=◌, unless}
 use Rattle.pybuf_desc.specs.Layouts.{Layout}
 use Rattle.pybuf_state.specs.Exporter.{Exporter, View, view_at, live_layout}
 
--- if each element of a list has a property, so has the element that is found
-pub All-slice_get : {X : Type 0} (P : X → Type 0) (xs : List X) (k : ℕ) (x : X) → All P xs → slice_get xs k ≡ Some x → P x
-All-slice_get P xs k x all at = subst P (get_or_from_slice_get xs k x x at) (all k x (slice_get_within xs k x at))
-
-given_of : (o : Option View) (v : View) → ok_or o fault.UnknownName ≡ Ok v → o ≡ Some v
-given_of None v found = cc
-given_of (Some w) v found = cc
-
 pub view_at_given : (e : Exporter) (k : ℕ) (v : View) → view_at e k ≡ Ok v → slice_get e.views k ≡ Some v
-view_at_given e k v found = given_of (slice_get e.views k) v found
-
-none_of : (o : Option View) (f : Fault) → ok_or o fault.UnknownName ≡ Err f → o ≡ None
-none_of None f refused = refl
-none_of (Some w) f refused = absurd (cc)
+view_at_given e k v found = view_given (slice_get e.views k) v found
 
 pub view_at_none : (e : Exporter) (k : ℕ) (f : Fault) → view_at e k ≡ Err f → slice_get e.views k ≡ None
-view_at_none e k f refused = none_of (slice_get e.views k) f refused
+view_at_none e k f refused = no_view_given (slice_get e.views k) f refused
 
 -- the view whose layout is a live layout
 pub record IsLiveView (e : Exporter) (k : ℕ) (layout : Layout) (v : View) : Type 0 where

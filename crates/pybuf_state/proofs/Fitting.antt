@@ -4,6 +4,7 @@ use Rattle.std.specs.Prelude.{◌&&◌, ◌||◌, ◌==◌, Option, Some, None, 
 use Rattle.std.specs.Option.{option_map}
 use Rattle.std.specs.Prelude.{IfOk, Result, Ok, Err}
 use Rattle.std.proofs.lemmas.Bool.{eq-eqb}
+use Rattle.pybuf_lemmas.proofs.Lists.{element_holds}
 use Rattle.pybuf_value.specs.declared.snaps.Snap.{Snap}
 use Rattle.pybuf_value.specs.declared.snaps.SnapKind.TheVariants as snap_kind
 use Rattle.pybuf_desc.specs.Items.{content_of_layout}
@@ -18,7 +19,6 @@ use Rattle.pybuf_memoryview.specs.Laws.{ContentsAreWhole}
 use Rattle.pybuf_state.specs.Exporter.{Exporter, View, Iterator}
 use Rattle.pybuf_state.specs.Sound.{IsSoundView, IsSoundExporter}
 use Rattle.pybuf_state.specs.Snaps.{snap_kind_of, snap_of_exporter, snap_of_view, iterator_snap, snap_of_subject}
-use Rattle.pybuf_state.proofs.Finding.{All-slice_get}
 
 bytes_are_sized : is_sized (codes "B") 1 ≡ true
 unfolding codes_in layout_from format_after_prefix
@@ -45,7 +45,7 @@ view_fits whole k bytes v sound = ap₂ (λ a b. a && b) (filled whole k bytes v
 
 found_fits : ContentsAreWhole → (e : Exporter) (o : Option View) (k : ℕ) → slice_get e.views k ≡ o → IsSoundExporter e → IfSome (option_map (snap_of_view e.bytes) o) (λ s. fits_snap s ≡ true)
 found_fits whole e None k at sound = tt
-found_fits whole e (Some v) k at sound = view_fits whole e.kind e.bytes v (All-slice_get (IsSoundView e.kind e.bytes) e.views k v sound.views at)
+found_fits whole e (Some v) k at sound = view_fits whole e.kind e.bytes v (element_holds (IsSoundView e.kind e.bytes) e.views k v sound.views at)
 
 iterator_fits : (o : Option Iterator) → IfSome (option_map (λ it. iterator_snap) o) (λ snap. fits_snap snap ≡ true)
 iterator_fits None = tt

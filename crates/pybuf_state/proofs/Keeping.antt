@@ -1,21 +1,24 @@
 -- What each way of changing an exporter keeps.
-use Rattle.std.proofs.Common.{◌≡◌, ℕ, suc, ◌+◌, ◌≤◌, ◌<◌, List, [], ◌∷◌, length, Bool, true, false, true≢false, sym, ◌∙◌, refl, subst, arith, inl, inr}
-use Rattle.std.specs.Prelude.{Some, codes, cond, slice_get, count_by, not}
+use Rattle.std.proofs.Common.{◌≡◌, ℕ, suc, ◌+◌, ◌≤◌, ◌<◌, List, [], ◌∷◌, length, true, false, true≢false, sym, ◌∙◌, refl, subst, arith, inl, inr}
+use Rattle.std.specs.Prelude.{Some, codes, cond, slice_get, count_by}
 use Rattle.std.specs.List.{All, range_with_len}
 use Rattle.std.proofs.lemmas.List.Elements.{All-nil, All-cons, All-push, All-set, All-weaker}
 use Rattle.std.proofs.lemmas.List.Sums.{sum_by-cons}
 use Rattle.std.proofs.lemmas.List.FromFn.{length-range_with_len, get_or-range_with_len}
+use Rattle.pybuf_lemmas.proofs.Numbers.{none_counted}
+use Rattle.pybuf_lemmas.proofs.Lists.{element_holds}
+use Rattle.pybuf_state.specs.Facts.{no_exports as free}
 use Rattle.pybuf_desc.specs.Layouts.{Layout}
 use Rattle.pybuf_command.specs.declared.kinds.ExporterKind.{ExporterKind}
 use Rattle.pybuf_struct.specs.Formats.{codes_in, layout_from, format_after_prefix}
 use Rattle.pybuf_memoryview.specs.Sized.{is_sized}
-use Rattle.pybuf_state.specs.Exporter.{Exporter, View, Iterator, is_exported, exports_of}
+use Rattle.pybuf_state.specs.Exporter.{Exporter, View, Iterator, is_exported}
 use Rattle.pybuf_state.specs.Sound.{IsSoundView, IsSoundExporter}
 use Rattle.pybuf_state.specs.Keeps.{IsSameOrReleased, ViewsStay, LengthsStay, IsSameOrMoved}
 use Rattle.pybuf_state.specs.Resizing.{has_exports}
 use Rattle.pybuf_state.specs.Laws.{IsSoundLayout, WholeLayoutsAreSound, PartLayoutsAreSound, LiveLayoutsAreSound, ReadingKeeps, NewViewsKeep, NewViewsAreSound, WritingKeeps, ResizingKeeps, EmptyingKeeps, ReleasingKeeps, NewIteratorsStay, MovedIteratorsStay}
 use Rattle.pybuf_state.proofs.Spacing.{one_more, one_released, same_views}
-use Rattle.pybuf_state.proofs.Finding.{All-slice_get, view_at_given, live_view, slice_get-push, slice_get-set}
+use Rattle.pybuf_state.proofs.Finding.{view_at_given, live_view, slice_get-push, slice_get-set}
 
 -- ---- layouts
 
@@ -51,7 +54,7 @@ part_sound e start count within = record {
 pub live_sound : LiveLayoutsAreSound
 live_sound e k layout sound found =
     let live = live_view e k layout found in
-    let view = All-slice_get (IsSoundView e.kind e.bytes) e.views k live.0 sound.views live.1.given in
+    let view = element_holds (IsSoundView e.kind e.bytes) e.views k live.0 sound.views live.1.given in
     subst (IsSoundLayout e) live.1.shows (record {
       formed = view.formed;
       inside = (view.held live.1.unreleased).inside;
@@ -130,19 +133,12 @@ released_keeps k old new v released view = record {
   held = λ unreleased. absurd (true≢false (sym released ∙ unreleased));
 }
 
-none_counted : (released : Bool) (n : ℕ) → cond (not released) 1 0 + n ≡ 0 → (released ≡ true) × (n ≡ 0)
-none_counted true n none = (refl, omega (arith, none))
-none_counted false n none = absurd (omega (arith, none))
-
 free_views : (k : ExporterKind) (old new : List ℕ) (views : List View) → count_by is_exported views ≡ 0 → All (IsSoundView k old) views → All (IsSoundView k new) views
 free_views k old new [] none sound = All-nil (IsSoundView k new)
 free_views k old new (v ∷ views) none sound =
     let first = none_counted v.released (count_by is_exported views) (sym (sum_by-cons (λ (w : View). cond (is_exported w) 1 0) v views) ∙ none) in
     All-cons (IsSoundView k new) v views (released_keeps k old new v first.0 (sound 0 v (omega arith)))
     (free_views k old new views first.1 (λ i d below. sound (suc i) d (omega (arith, below))))
-
-free : (e : Exporter) → has_exports e ≡ false → exports_of e ≡ 0
-free e none = grind (arith, none)
 
 free_sound : (e : Exporter) (bytes : List ℕ) → IsSoundExporter e → has_exports e ≡ false → IsSoundExporter (record e { bytes = bytes })
 free_sound e bytes sound none = record { views = free_views e.kind e.bytes bytes e.views (free e none) sound.views }
@@ -184,7 +180,7 @@ releasing e k v sound found =
     record {
       kind = refl;
       sound = record {
-        views = All-set (IsSoundView e.kind e.bytes) e.views k w (released_sound e.kind e.bytes v (All-slice_get (IsSoundView e.kind e.bytes) e.views k v sound.views at)) sound.views;
+        views = All-set (IsSoundView e.kind e.bytes) e.views k w (released_sound e.kind e.bytes v (element_holds (IsSoundView e.kind e.bytes) e.views k v sound.views at)) sound.views;
       };
       lengths = record { views = λ j u there. slice_get-set IsSameOrReleased e.views k j v w u same (inr refl) at there; bytes = λ live. refl };
       readonly_bytes = λ readonly. inl refl;

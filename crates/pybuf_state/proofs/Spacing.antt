@@ -2,6 +2,7 @@
 use Rattle.std.proofs.Common.{Bool, true, false, [], length, sym, subst}
 use Rattle.std.specs.List.{All}
 use Rattle.std.proofs.lemmas.List.Elements.{All-nil, All-push, All-set}
+use Rattle.pybuf_lemmas.proofs.Lists.{element_holds}
 use Rattle.pybuf_value.specs.declared.snaps.Snap.{Snap}
 use Rattle.pybuf_value.specs.declared.snaps.SnapKind.{SnapKind}
 use Rattle.pybuf_value.specs.declared.snaps.SnapKind.TheVariants as kind
@@ -13,7 +14,7 @@ use Rattle.pybuf_state.specs.Exporter.{View, new_exporter}
 use Rattle.pybuf_state.specs.Fresh.{vector_of, made_by_kind}
 use Rattle.pybuf_state.specs.Spaced.{IsSpaced}
 use Rattle.pybuf_state.specs.Laws.{NewExportersAreSpaced, NewViewsStayApart, ReleasedViewsStayApart, SameViewsStayApart, LiveLayoutsLieApart, CopiesAreSpaced}
-use Rattle.pybuf_state.proofs.Finding.{All-slice_get, view_at_given, live_view}
+use Rattle.pybuf_state.proofs.Finding.{view_at_given, live_view}
 
 abbrev Apart : View → Type 0
 Apart v = HasItemsApart v.layout
@@ -26,7 +27,7 @@ one_more e layout spaced apart = record { views = All-push Apart e.views (record
 
 pub one_released : ReleasedViewsStayApart
 one_released e k v spaced given =
-    record { views = All-set Apart e.views k (record v { released = true }) (All-slice_get Apart e.views k v spaced.views (view_at_given e k v given)) spaced.views }
+    record { views = All-set Apart e.views k (record v { released = true }) (element_holds Apart e.views k v spaced.views (view_at_given e k v given)) spaced.views }
 
 pub same_views : SameViewsStayApart
 same_views e new same spaced = record { views = subst (All Apart) (sym same) spaced.views }
@@ -34,7 +35,7 @@ same_views e new same spaced = record { views = subst (All Apart) (sym same) spa
 pub live_apart : LiveLayoutsLieApart
 live_apart e k layout spaced found =
     let live = live_view e k layout found in
-    subst HasItemsApart live.1.shows (All-slice_get Apart e.views k live.0 spaced.views live.1.given)
+    subst HasItemsApart live.1.shows (element_holds Apart e.views k live.0 spaced.views live.1.given)
 
 -- ---- copies
 

@@ -14,3 +14,4 @@ pub mod Resizing
 pub mod Lending
 pub mod Bytes
 pub mod Store
+pub mod Facts

@@ -2,8 +2,9 @@
 use Rattle.std.proofs.Common.{◌≡◌, ℕ, zero, suc, ◌+◌, ◌*◌, ◌<◌, ◌≤◌, false, List, [], ◌++◌, length, take, drop, ap, ap₂, sym, ◌∙◌, refl, arith}
 use Rattle.std.proofs.Math.Nat.{zero-mul, mul-le-mul_right}
 use Rattle.std.proofs.lemmas.Grind.{common_steps}
-use Rattle.std.proofs.lemmas.List.{length-append, length-take-le, length-drop, append-nil, take_at, drop-drop}
-use Rattle.std.proofs.Math.Seq.{drop-append-add}
+use Rattle.std.proofs.lemmas.List.{length-append, append-nil}
+use Rattle.pybuf_lemmas.proofs.Lists.{length_of_piece}
+use Rattle.pybuf_strided.specs.Facts.{piece_after}
 use Rattle.pybuf_strided.specs.Apart.{place_of, with_piece, moved_at, pieces_at}
 
 -- One more item is copied.
@@ -30,12 +31,6 @@ none_moved bytes to source from size (suc n) none =
 
 -- ---- items one after the other
 
-piece_long : (source : List ℕ) (there size : ℕ) → (0 < size → there + size ≤ length source) → length (take size (drop there source)) ≡ size
-piece_long source there zero inside = grind (arith, common_steps)
-piece_long source there (suc size) inside =
-    let here : there + suc size ≤ length source = inside (let some : 0 < suc size = omega arith in some) in
-    length-take-le (suc size) (drop there source) (let fits : suc size ≤ length (drop there source) = omega (arith, here, length-drop there source) in fits)
-
 -- Each of the first items lies inside the source.
 abbrev pub Lie : List ℕ → (ℕ → ℕ) → ℕ → ℕ → Type 0
 Lie source from size n = 0 < size → (k : ℕ) → k < n → from k + size ≤ length source
@@ -44,7 +39,7 @@ fewer : (source : List ℕ) (from : ℕ → ℕ) (size n : ℕ) → Lie source f
 fewer source from size n all = λ some k less. all some k (let more : k < suc n = omega (arith, less) in more)
 
 last_long : (source : List ℕ) (from : ℕ → ℕ) (size n : ℕ) → Lie source from size (suc n) → length (take size (drop (from n) source)) ≡ size
-last_long source from size n all = piece_long source (from n) size (λ some. all some n (let last : n < suc n = omega arith in last))
+last_long source from size n all = length_of_piece source (from n) size (λ some. all some n (let last : n < suc n = omega arith in last))
 
 pub length-pieces : (source : List ℕ) (from : ℕ → ℕ) (size n : ℕ) → Lie source from size n → length (pieces_at source from size n) ≡ n * size
 length-pieces source from size zero all = sym (zero-mul size)
@@ -53,13 +48,6 @@ length-pieces source from size (suc n) all =
     let last = last_long source from size n all in
     let whole : suc n * size ≡ n * size + size = grind arith in
     length-append (pieces_at source from size n) (take size (drop (from n) source)) ∙ ap₂ (λ (x y : ℕ). x + y) before last ∙ sym whole
-
-piece_after : (pieces item room : List ℕ) (a : ℕ) → length pieces ≡ a → with_piece (pieces ++ drop a room) a item ≡ (pieces ++ item) ++ drop (a + length item) room
-piece_after pieces item room a long =
-    let n : ℕ = length item in
-    let rest : drop (a + n) (pieces ++ drop a room) ≡ drop (a + n) room =
-    ap (λ (k : ℕ). drop (k + n) (pieces ++ drop a room)) (sym long) ∙ drop-append-add pieces (drop a room) n ∙ drop-drop n a room in
-    ap₂ (λ (xs ys : List ℕ). xs ++ item ++ ys) (take_at pieces (drop a room) a long) rest
 
 -- The first items are in the room, and the rest of the room is as it was.
 pub room_filled : (room source : List ℕ) (from : ℕ → ℕ) (size n : ℕ) → Lie source from size n

@@ -3,6 +3,7 @@ use Rattle.std.proofs.Common.{◌≡◌, ℕ, zero, suc, ◌+◌, ◌-◌, ◌%�
 use Rattle.std.specs.Prelude.{IsTrue}
 use Rattle.std.specs.List.{AllByRecursion}
 use Rattle.std.proofs.lemmas.Bool.{eqb-true}
+use Rattle.pybuf_struct.specs.Facts.{by_width}
 use Rattle.pybuf_struct.specs.declared.table.Endianness.{Endianness}
 use Rattle.pybuf_struct.specs.declared.table.Endianness.TheVariants as order
 use Rattle.pybuf_struct.specs.declared.table.FormatType.{FormatType}
@@ -12,7 +13,6 @@ use Rattle.pybuf_struct.specs.Digits.{is_width}
 use Rattle.pybuf_value.specs.Choosing.{◌>>=◌}
 use Rattle.pybuf_struct.specs.Formats.{CountedCode, Code, Format, Field, padding, codes_in, layout_from, format_after_prefix, code_at, offset_after, fields_in_row, fields_of_code, fields_from, fields}
 use Rattle.pybuf_struct.specs.Laws.{IsAligned}
-use Rattle.pybuf_struct.proofs.NumbersAgain.{by_width}
 
 abbrev some : {A : Type 0} → A → Option A
 some x = Some x

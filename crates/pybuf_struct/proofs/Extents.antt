@@ -1,12 +1,13 @@
 -- Codes one after another: their bytes and their fields.
-use Rattle.std.proofs.Common.{◌≡◌, ℕ, zero, suc, ◌+◌, ◌≤◌, List, [], ◌∷◌, ◌++◌, length, refl, ap, length-append, arith}
+use Rattle.std.proofs.Common.{◌≡◌, ℕ, ◌+◌, ◌≤◌, List, [], ◌∷◌, ◌++◌, length, ap, length-append, arith}
 use Rattle.std.proofs.Math.Nat.{mul-le-mul_left}
+use Rattle.pybuf_struct.specs.Facts.{length-fields_of_code}
 use Rattle.pybuf_struct.specs.declared.table.Endianness.{Endianness}
 use Rattle.pybuf_struct.specs.declared.table.Endianness.TheVariants as order
 use Rattle.pybuf_struct.specs.declared.table.FormatType.{FormatType}
 use Rattle.pybuf_struct.specs.declared.table.FormatType.TheVariants as code
 use Rattle.pybuf_struct.specs.Table.{size_of}
-use Rattle.pybuf_struct.specs.Formats.{Code, span, extent, offset_after, fields_in_row, fields_of_code, fields_from, field_count, field_count_of}
+use Rattle.pybuf_struct.specs.Formats.{Code, span, extent, offset_after, fields_of_code, fields_from, field_count, field_count_of}
 
 -- a unit of a code takes at least one byte
 pub one-le-size : (c : FormatType) (o : Endianness) → 1 ≤ size_of o c
@@ -22,16 +23,6 @@ le-span o c = omega (arith, mul-le-mul_left c.repeat (one-le-size c.code o))
 pub extent_push : (o : Endianness) (codes : List Code) (c : Code) → extent o (codes ++ c ∷ []) ≡ extent o codes + (c.pre_padding + span o c)
 extent_push o [] c = omega arith
 extent_push o (d ∷ codes) c = omega (arith, extent_push o codes c)
-
-length-fields_in_row : (c : FormatType) (size offset n : ℕ) → length (fields_in_row c size offset n) ≡ n
-length-fields_in_row c size offset zero = refl
-length-fields_in_row c size offset (suc n) = ap suc (length-fields_in_row c size (offset + size) n)
-
-length-fields_of_code : (c : FormatType) (size offset n : ℕ) → length (fields_of_code c size offset n) ≡ field_count_of c n
-length-fields_of_code code.Pad size offset n = refl
-length-fields_of_code code.Str size offset n = refl
-length-fields_of_code code.Pascal size offset n = refl
-length-fields_of_code c size offset n = length-fields_in_row c size offset n
 
 pub length-fields_push : (o : Endianness) (offset : ℕ) (codes : List Code) (c : Code) → length (fields_from o offset (codes ++ c ∷ [])) ≡ length (fields_from o offset codes) + field_count c
 length-fields_push o offset [] c = omega (arith, length-append (fields_of_code c.code (size_of o c.code) (offset + c.pre_padding) c.repeat) [], length-fields_of_code c.code (size_of o c.code) (offset + c.pre_padding) c.repeat)

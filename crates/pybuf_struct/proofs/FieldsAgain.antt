@@ -1,10 +1,13 @@
 -- The value of a field is read from the field's own bytes, and a value that was read has these bytes.
 use Rattle.std.proofs.Common.{◌≡◌, ℕ, zero, suc, ◌-◌, min, Bool, true, false, cond, eqb, List, [], ◌∷◌, length, get_or, take, replicate, ℤ, Result, Ok, Err, refl, sym, ap, ◌∙◌, arith}
 use Rattle.std.specs.Prelude.{IsTrue, not}
-use Rattle.std.specs.Int.{bytes_low_first, bytes_high_first}
+use Rattle.std.specs.Int.{bytes_high_first}
 use Rattle.std.proofs.Math.Dec.{eqb-suc-zero}
 use Rattle.std.proofs.lemmas.Bool.{eqb-true, eq-eqb}
 use Rattle.std.proofs.lemmas.List.{length-take, length-append, length-replicate, take-append-le, take-take, take_all, take_min, append-nil}
+use Rattle.pybuf_lemmas.proofs.Numbers.{length_low_first}
+use Rattle.pybuf_lemmas.proofs.Lists.{IsBytes}
+use Rattle.pybuf_struct.specs.Facts.{digits_again, halved, complement_fits, signed_again, reads_back, signed_back}
 use Rattle.pybuf_value.specs.declared.faults.Fault.{Fault}
 use Rattle.pybuf_value.specs.declared.faults.Fault.TheVariants as fault
 use Rattle.pybuf_value.specs.declared.values.Scalar.{Scalar}
@@ -22,7 +25,6 @@ use Rattle.pybuf_struct.specs.Digits.{unsigned_number, signed_as, number, is_wid
 use Rattle.pybuf_struct.specs.Values.{is_length, pascal_content, value_of}
 use Rattle.pybuf_struct.specs.Packing.{is_in_range, complement_of, digits_of, number_bytes, truth_byte, fitted_to, single_byte, pascal_bytes, pascal_field, bytes_of}
 use Rattle.pybuf_struct.specs.Laws.{normal_number, normal_truth, normal_bytes, normal_pascal, normal_of, is_exact}
-use Rattle.pybuf_struct.proofs.NumbersAgain.{IsBytes, digits_again, halved, complement_fits, signed_again, reads_back, signed_back}
 
 abbrev okay : {A : Type 0} → A → Result A Fault
 okay x = Ok x
@@ -36,17 +38,13 @@ GivesBack read normal bytes len = (read ≡ normal) × (length bytes ≡ len)
 
 -- ---- lengths
 
-length-little_endian : (i k n : ℕ) → length (bytes_low_first i k n) ≡ k
-length-little_endian i zero n = refl
-length-little_endian i (suc k) n = ap suc (length-little_endian (suc i) k n)
-
 length-big_endian : (k n : ℕ) → length (bytes_high_first k n) ≡ k
 length-big_endian zero n = refl
 length-big_endian (suc k) n = ap suc (length-big_endian k n)
 
 length-digits_of : (big : Bool) (size n : ℕ) → length (digits_of big size n) ≡ size
 length-digits_of true size n = length-big_endian size n
-length-digits_of false size n = length-little_endian 0 size n
+length-digits_of false size n = length_low_first 0 size n
 
 length-fitted_to : (n : ℕ) (bytes : List ℕ) → length (fitted_to n bytes) ≡ n
 length-fitted_to n bytes = omega (arith, length-append (take n bytes) (replicate (n - length bytes) 0), length-take n bytes, length-replicate {A = ℕ} (n - length bytes) 0)

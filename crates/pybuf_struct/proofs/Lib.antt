@@ -4,7 +4,6 @@ pub mod Reading
 pub mod ReadBack
 pub mod Grammar
 pub mod Spelling
-pub mod Words
 pub mod Rows
 pub mod Walks
 pub mod CursorSteps

@@ -3,6 +3,7 @@ use Rattle.std.proofs.Common.{◌≡◌, ◌⊎◌, inl, inr, ℕ, Bool, true, f
 use Rattle.std.specs.Prelude.{◌==◌}
 use Rattle.std.specs.Str.{byte}
 use Rattle.std.proofs.lemmas.Bool.{eqb-true}
+use Rattle.pybuf_lemmas.proofs.Lists.{found_passes}
 use Rattle.pybuf_struct.specs.declared.table.Endianness.TheVariants as order
 use Rattle.pybuf_struct.specs.declared.table.FormatType.{FormatType}
 use Rattle.pybuf_struct.specs.declared.table.FormatType.TheVariants as code
@@ -11,7 +12,6 @@ use Rattle.pybuf_struct.specs.Formats.{codes_in, layout_from, format_after_prefi
 use Rattle.pybuf_struct.specs.Singles.{single_code, size_by}
 use Rattle.pybuf_struct.specs.Natives.{is_item_code, item_code_alone, without_at, native_single_code}
 use Rattle.pybuf_struct.specs.Laws.{NativeCodesAreSpelled, NativeCodesHaveTheirSize}
-use Rattle.pybuf_struct.proofs.Singles.{find_passes}
 
 letter_alone : (c : FormatType) → is_item_code c ≡ true → native_single_code (letter c ∷ []) ≡ Some c
 letter_alone code.Pad is = absurd cc
@@ -38,7 +38,7 @@ size_alone _ = refl
 -- a text that spells a single code is the letter of this code
 is_letter : (text : List ℕ) (c : FormatType) → single_code text ≡ Some c → text ≡ letter c ∷ []
 is_letter [] c is = absurd cc
-is_letter (b ∷ []) c is = ap (λ (x : ℕ). x ∷ []) (sym (eqb-true (letter c) b (find_passes (λ d. letter d == b) every_code c is)))
+is_letter (b ∷ []) c is = ap (λ (x : ℕ). x ∷ []) (sym (eqb-true (letter c) b (found_passes (λ d. letter d == b) every_code c is)))
 is_letter (b ∷ d ∷ rest) c is = absurd cc
 
 item_case : (d : FormatType) (b : Bool) (c : FormatType) → is_item_code d ≡ b → cond b (Some d) None ≡ Some c → (Some d ≡ Some c) × (is_item_code c ≡ true)

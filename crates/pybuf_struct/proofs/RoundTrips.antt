@@ -4,6 +4,8 @@ use Rattle.std.specs.Prelude.{IsTrue}
 use Rattle.std.specs.List.{All, AllByRecursion}
 use Rattle.std.proofs.lemmas.Bool.{eqb-true, eq-eqb, cases_lt}
 use Rattle.std.proofs.lemmas.List.{length-take, length-drop, length-replicate, length-map, get_or-take, get_or-drop, get_or_past}
+use Rattle.pybuf_lemmas.proofs.Lists.{bytes_of_all, IsBytes}
+use Rattle.pybuf_struct.specs.Facts.{unpacked_at}
 use Rattle.pybuf_value.specs.declared.faults.Fault.{Fault}
 use Rattle.pybuf_value.specs.declared.faults.Fault.TheVariants as fault
 use Rattle.pybuf_value.specs.declared.values.Scalar.{Scalar}
@@ -17,7 +19,6 @@ use Rattle.pybuf_struct.specs.Formats.{Code, Format, Field, offset_after, extent
 use Rattle.pybuf_struct.specs.Values.{value_of, value_in, values, unpacked_values}
 use Rattle.pybuf_struct.specs.Packing.{bytes_of, contents_of, room_with_fields, room_with, room_with_contents, packed_bytes, packed_values}
 use Rattle.pybuf_struct.specs.Laws.{Spread, normal_of, normal_values, is_exact, AreExact}
-use Rattle.pybuf_struct.proofs.NumbersAgain.{IsBytes}
 use Rattle.pybuf_struct.proofs.FieldsAgain.{GivesBack, field_gives, field_back}
 use Rattle.pybuf_struct.proofs.Fields.{IsSound, fields_sound}
 use Rattle.pybuf_struct.proofs.Places.{Spread-le, Spread-fields, Fills, length-room_with, length-room_with_fields, field_kept, Tiles, Tiles-fields, part, written_parts}
@@ -76,9 +77,6 @@ guarded : {A : Type 0} (test : Bool) (r : Result A Fault) (x : A) → cond test 
 guarded true r x is = (refl, is)
 guarded false r x is = absurd cc
 
-pub unpacked_at : (f : Format) (bytes : List ℕ) → length bytes ≡ f.size → unpacked_values f bytes ≡ Ok (values f bytes)
-unpacked_at f bytes long = rw (eq-eqb (length bytes) f.size long) refl
-
 pub packed_again : (f : Format) (pairs : List (ℕ × Snap)) (vs : List Scalar) (bytes : List ℕ) → extent f.order f.codes ≡ f.size → packed_bytes f pairs vs ≡ Ok bytes → unpacked_values f bytes ≡ Ok (normal_values pairs (fields f) vs)
 packed_again f pairs vs bytes whole is =
     let room = replicate f.size 0 in
@@ -102,13 +100,6 @@ IsBytes-part bytes f small i =
     elim (cases_lt i f.length) [
       | inl lt ↦ rw (get_or-take f.length (drop f.offset bytes) i 0 lt, get_or-drop f.offset bytes i 0) (small (f.offset + i))
       | inr le ↦ rw (get_or_past (part bytes f) i 0 (omega (arith, length-take f.length (drop f.offset bytes)))) (omega arith)
-    ]
-
-IsBytes-from : (bytes : List ℕ) → All (λ b. b < 256) bytes → IsBytes bytes
-IsBytes-from bytes small i =
-    elim (cases_lt i (length bytes)) [
-      | inl lt ↦ small i 0 lt
-      | inr le ↦ rw (get_or_past bytes i 0 le) (omega arith)
     ]
 
 abbrev AllExact : List Field → Type 0
@@ -152,7 +143,7 @@ unpacked_again f pairs vs bytes whole exact small is =
     let room = replicate f.size 0 in
     let room_long : length room ≡ f.size = length-replicate {A = ℕ} f.size 0 in
     let contents : contents_of f.order pairs (fields f) (values f bytes) ≡ okay (map (part bytes) (fields f))
-    = contents_back f.order pairs bytes (fields f) (fields_sound f.order (length bytes) 0 f.codes (omega (arith, from_zero))) (exact-fields f.order 0 f.codes exact) (IsBytes-from bytes small) in
+    = contents_back f.order pairs bytes (fields f) (fields_sound f.order (length bytes) 0 f.codes (omega (arith, from_zero))) (exact-fields f.order 0 f.codes exact) (bytes_of_all bytes small) in
     let tiles : Tiles 0 (fields f) (length bytes) = subst (Tiles 0 (fields f)) from_zero (Tiles-fields f.order 0 f.codes exact) in
     let back : room_with_fields (fields f) (map (part bytes) (fields f)) room ≡ bytes = written_parts bytes 0 (fields f) (length bytes) room tiles refl (omega arith) in
     let counts : length (values f bytes) ≡ length (fields f) = length-map (fields f) (value_in f.order bytes) in

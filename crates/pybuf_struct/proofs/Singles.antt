@@ -1,9 +1,10 @@
 -- What the text of one code's letter spells.
 use Rattle.std.proofs.Common.{◌≡◌, ℕ, Bool, true, false, cond, List, [], ◌∷◌, ◌++◌, ◌+◌, length, take, drop, replicate, Option, Some, None, Ok, refl, ap, subst, ◌∙◌, sym, arith}
 use Rattle.std.specs.Prelude.{◌==◌, Result, Err, IsErr}
-use Rattle.std.specs.List.{find}
 use Rattle.std.proofs.lemmas.Bool.{eqb-true}
 use Rattle.std.proofs.lemmas.List.{append-nil, take_all, drop_all, length-replicate}
+use Rattle.pybuf_lemmas.proofs.Lists.{found_passes}
+use Rattle.pybuf_struct.specs.Facts.{unpacked_at}
 use Rattle.pybuf_value.specs.declared.faults.Fault.{Fault}
 use Rattle.pybuf_value.specs.declared.values.Scalar.{Scalar}
 use Rattle.pybuf_value.specs.declared.snaps.Snap.{Snap}
@@ -16,7 +17,6 @@ use Rattle.pybuf_struct.specs.Formats.{Format, Field, codes_in, layout_from, for
 use Rattle.pybuf_struct.specs.Values.{value_of, values, unpacked_values}
 use Rattle.pybuf_struct.specs.Packing.{bytes_of, contents_of, room_with_contents, packed_bytes}
 use Rattle.pybuf_struct.specs.Singles.{single_code, is_numeric, numeric_code, numeric_alone, values_by, bytes_by}
-use Rattle.pybuf_struct.proofs.RoundTrips.{unpacked_at}
 
 -- the format that the letter of a code spells
 abbrev pub single_format : FormatType → Format
@@ -27,18 +27,10 @@ unfolding codes_in layout_from format_after_prefix
 letter_spells code.Pad = refl
 letter_spells _ = refl
 
-found_by : {X : Type 0} (p : X → Bool) (x : X) (b : Bool) (rest : Option X) (y : X) → p x ≡ b → (rest ≡ Some y → p y ≡ true) → cond b (Some x) rest ≡ Some y → p y ≡ true
-found_by p x true rest y is after found = let same : x ≡ y = cc in subst (λ z. p z ≡ true) same is
-found_by p x false rest y is after found = after found
-
-pub find_passes : {X : Type 0} (p : X → Bool) (xs : List X) (y : X) → find p xs ≡ Some y → p y ≡ true
-find_passes p [] y found = absurd cc
-find_passes p (x ∷ xs) y found = found_by p x (p x) (find p xs) y refl (find_passes p xs y) found
-
 pub single_spells : (text : List ℕ) (c : FormatType) → single_code text ≡ Some c → format_of text ≡ Ok (single_format c)
 single_spells [] c is = absurd cc
 single_spells (b ∷ []) c is =
-    let same : letter c ≡ b = eqb-true (letter c) b (find_passes (λ d. letter d == b) every_code c is) in
+    let same : letter c ≡ b = eqb-true (letter c) b (found_passes (λ d. letter d == b) every_code c is) in
     subst (λ (x : ℕ). format_of (x ∷ []) ≡ Ok (single_format c)) same (letter_spells c)
 single_spells (b ∷ d ∷ rest) c is = absurd cc
 

@@ -1,7 +1,7 @@
 -- The fields of one code are read after those of another.
-use Rattle.std.proofs.Common.{◌≡◌, ℕ, suc, ◌+◌, ◌<◌, ◌≤◌, List, ◌∷◌, ◌++◌, length, get_or, drop, map, sym, ap, ◌∙◌, append_assoc, add-one, arith}
-use Rattle.std.proofs.Math.Seq.{drop-cons}
+use Rattle.std.proofs.Common.{◌≡◌, ℕ, ◌+◌, ◌<◌, ◌≤◌, List, ◌++◌, length, get_or, drop, map, sym, ap, ◌∙◌, append_assoc, arith}
 use Rattle.std.proofs.lemmas.List.{append-nil, drop_all, map-append}
+use Rattle.pybuf_struct.specs.Facts.{next_is}
 use Rattle.pybuf_value.specs.declared.values.Scalar.{Scalar}
 use Rattle.pybuf_struct.specs.declared.table.Endianness.{Endianness}
 use Rattle.pybuf_struct.specs.Table.{size_of}
@@ -15,9 +15,6 @@ pub record Walks (o : Endianness) (bytes : List ℕ) (codes : List Code) (at i :
 
 abbrev pub own_fields : Endianness → ℕ → Code → List Field
 own_fields o at c = fields_of_code c.code (size_of o c.code) (at + c.pre_padding) c.repeat
-
-next_is : (codes : List Code) (i : ℕ) (c : Code) → i < length codes → c ≡ get_or codes i c → drop i codes ≡ c ∷ drop (i + 1) codes
-next_is codes i c lt is = drop-cons codes i c lt ∙ ap (λ (d : Code). d ∷ drop (suc i) codes) (sym is) ∙ ap (λ (k : ℕ). c ∷ drop k codes) (sym (add-one i))
 
 pub code_within : (o : Endianness) (bytes : List ℕ) (codes : List Code) (at i : ℕ) (before out : List Scalar) (c : Code) → Walks o bytes codes at i before out → i < length codes → c ≡ get_or codes i c
     → at + (c.pre_padding + span o c + extent o (drop (i + 1) codes)) ≤ length bytes

@@ -1,7 +1,6 @@
 -- A format that a text spells fills its size.
-use Rattle.std.proofs.Common.{◌≡◌, ℕ, ◌+◌, ◌^◌, Bool, true, false, cond, ltb, List, [], ◌∷◌, Option, Some, None, Ok, refl, ap, subst, arith}
-use Rattle.std.specs.Prelude.{ok_or}
-use Rattle.pybuf_value.specs.declared.faults.Fault.TheVariants as fault
+use Rattle.std.proofs.Common.{◌≡◌, ℕ, ◌+◌, ◌^◌, Bool, true, false, cond, ltb, List, [], ◌∷◌, Option, Some, None, Ok, refl, subst, arith}
+use Rattle.pybuf_struct.specs.Facts.{ok_or_some}
 use Rattle.pybuf_struct.specs.declared.table.Endianness.{Endianness}
 use Rattle.pybuf_value.specs.Choosing.{◌>>=◌}
 use Rattle.pybuf_struct.specs.Formats.{CountedCode, Code, Format, codes_in, layout_from, format_after_prefix, format_of, prefix_of, code_at, offset_after, extent}
@@ -53,10 +52,6 @@ spelled_items o (Some items) f is = spelled_by o (layout_from o 0 items) f (λ k
 spelled_fills : (o : Endianness) (text : List ℕ) (f : Format) → format_after_prefix o text ≡ some f → extent f.order f.codes ≡ f.size
 unfolding format_after_prefix
 spelled_fills o text f is = spelled_items o (codes_in o text) f is
-
-pub ok_or_some : (o : Option Format) (f : Format) → ok_or o fault.Struct ≡ Ok f → o ≡ Some f
-ok_or_some None f is = absurd cc
-ok_or_some (Some g) f is = ap some (let same : g ≡ f = cc in same)
 
 pub format_fills : (text : List ℕ) (f : Format) → format_of text ≡ Ok f → extent f.order f.codes ≡ f.size
 format_fills text f is = spelled_fills (prefix_of text).0 (prefix_of text).1 f (ok_or_some (format_after_prefix (prefix_of text).0 (prefix_of text).1) f is)

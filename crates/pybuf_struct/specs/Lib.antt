@@ -9,3 +9,4 @@ pub mod Laws
 pub mod Singles
 pub mod Natives
 pub mod Offsets
+pub mod Facts

@@ -1,17 +1,13 @@
 -- The fields of one code, by their numbers.
 use Rattle.std.proofs.Common.{◌≡◌, ℕ, zero, suc, ◌+◌, ◌-◌, ◌*◌, ◌<◌, ◌≤◌, List, [], ◌∷◌, ◌++◌, length, get_or, drop, refl, sym, ap, ◌∙◌, arith}
 use Rattle.std.specs.Prelude.{Some, None, Option, slice_get}
-use Rattle.std.proofs.lemmas.List.{drop_more, drop_all}
+use Rattle.std.proofs.lemmas.List.{drop_all}
+use Rattle.pybuf_struct.specs.Facts.{length-fields_of_code, next_is}
 use Rattle.pybuf_struct.specs.declared.table.FormatType.{FormatType}
 use Rattle.pybuf_struct.specs.declared.table.FormatType.TheVariants as code
 use Rattle.pybuf_struct.specs.declared.table.Endianness.{Endianness}
 use Rattle.pybuf_struct.specs.Table.{size_of}
-use Rattle.pybuf_struct.specs.Formats.{Code, Field, fields_in_row, fields_of_code, fields_from, field_count, field_count_of, offset_after, span, extent}
-
-pub unit_within : (number count size : ℕ) → number < count → number * size + size ≤ count * size
-unit_within number zero size less = absurd (omega arith)
-unit_within zero (suc count) size less = omega arith
-unit_within (suc number) (suc count) size less = let more : number * size + size ≤ count * size = unit_within number count size (omega arith) in omega (arith, more)
+use Rattle.pybuf_struct.specs.Formats.{Code, Field, fields_in_row, fields_of_code, fields_from, field_count, offset_after, span, extent}
 
 abbrev field_at : FormatType → ℕ → ℕ → Option Field
 field_at c offset size = Some (record { code = c; offset = offset; length = size })
@@ -37,47 +33,20 @@ get_right (x ∷ xs) ys (suc k) left same = get_right xs ys k left (omega arith)
 
 -- ---- the fields of codes, one after another
 
-length_in_row : (c : FormatType) (size offset count : ℕ) → length (fields_in_row c size offset count) ≡ count
-length_in_row c size offset zero = refl
-length_in_row c size offset (suc count) = let more : length (fields_in_row c size (offset + size) count) ≡ count = length_in_row c size (offset + size) count in omega (arith, more)
-
-length_of_code : (c : FormatType) (size offset count : ℕ) → length (fields_of_code c size offset count) ≡ field_count_of c count
-length_of_code code.Pad size offset count = refl
-length_of_code code.Str size offset count = refl
-length_of_code code.Pascal size offset count = refl
-length_of_code code.SByte size offset count = length_in_row code.SByte size offset count
-length_of_code code.UByte size offset count = length_in_row code.UByte size offset count
-length_of_code code.Char size offset count = length_in_row code.Char size offset count
-length_of_code code.Bool size offset count = length_in_row code.Bool size offset count
-length_of_code code.Short size offset count = length_in_row code.Short size offset count
-length_of_code code.UShort size offset count = length_in_row code.UShort size offset count
-length_of_code code.Int size offset count = length_in_row code.Int size offset count
-length_of_code code.UInt size offset count = length_in_row code.UInt size offset count
-length_of_code code.Long size offset count = length_in_row code.Long size offset count
-length_of_code code.ULong size offset count = length_in_row code.ULong size offset count
-length_of_code code.LongLong size offset count = length_in_row code.LongLong size offset count
-length_of_code code.ULongLong size offset count = length_in_row code.ULongLong size offset count
-length_of_code code.SSizeT size offset count = length_in_row code.SSizeT size offset count
-length_of_code code.SizeT size offset count = length_in_row code.SizeT size offset count
-length_of_code code.WideChar size offset count = length_in_row code.WideChar size offset count
-
 -- A field is one of the first code, or one of the other codes.
 pub field_here : (o : Endianness) (at : ℕ) (c : Code) (codes : List Code) (k : ℕ) → k < field_count c
     → slice_get (fields_from o at (c ∷ codes)) k ≡ slice_get (fields_of_code c.code (size_of o c.code) (at + c.pre_padding) c.repeat) k
 field_here o at c codes k less =
     get_left (fields_of_code c.code (size_of o c.code) (at + c.pre_padding) c.repeat) (fields_from o (offset_after o at c) codes) k
-    (rw (length_of_code c.code (size_of o c.code) (at + c.pre_padding) c.repeat) less)
+    (rw (length-fields_of_code c.code (size_of o c.code) (at + c.pre_padding) c.repeat) less)
 
 pub field_later : (o : Endianness) (at : ℕ) (c : Code) (codes : List Code) (k : ℕ) → field_count c ≤ k
     → slice_get (fields_from o at (c ∷ codes)) k ≡ slice_get (fields_from o (offset_after o at c) codes) (k - field_count c)
 field_later o at c codes k within =
     get_right (fields_of_code c.code (size_of o c.code) (at + c.pre_padding) c.repeat) (fields_from o (offset_after o at c) codes) k (k - field_count c)
-    (rw (length_of_code c.code (size_of o c.code) (at + c.pre_padding) c.repeat) (omega arith))
+    (rw (length-fields_of_code c.code (size_of o c.code) (at + c.pre_padding) c.repeat) (omega arith))
 
 -- ---- the codes of a format, one after another
-
-next_is : (codes : List Code) (i : ℕ) (c : Code) → i < length codes → c ≡ get_or codes i c → drop i codes ≡ c ∷ drop (i + 1) codes
-next_is codes i c less is = drop_more codes i c less ∙ ap (λ (d : Code). d ∷ drop (i + 1) codes) (sym is)
 
 pub found_here : (o : Endianness) (at i k : ℕ) (codes : List Code) (c : Code) → i < length codes → c ≡ get_or codes i c → k < field_count c
     → slice_get (fields_from o at (drop i codes)) k ≡ slice_get (fields_of_code c.code (size_of o c.code) (at + c.pre_padding) c.repeat) k

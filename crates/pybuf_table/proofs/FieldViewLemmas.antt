@@ -7,8 +7,8 @@ use Rattle.std.specs.Option.{ok_or}
 use Rattle.std.specs.List.{flat_map, range_with_len}
 use Rattle.std.proofs.lemmas.List.Elements.{All-nil, All-cons, All-map}
 use Rattle.std.proofs.lemmas.List.FromFn.{length-map-range_with_len}
-use Rattle.std.proofs.lemmas.Nat.{div-add-mod'}
 use Rattle.std.proofs.Math.Nat.{mul_comm}
+use Rattle.pybuf_lemmas.proofs.Numbers.{whole_quotient, positive_is_nonzero, item_ends_before_next}
 use Rattle.pybuf_value.specs.declared.faults.Fault.{Fault}
 use Rattle.pybuf_value.specs.declared.faults.Fault.TheVariants as fault
 use Rattle.pybuf_value.specs.Refusing.{◌>>=◌, unless}
@@ -28,7 +28,6 @@ use Rattle.pybuf_state.specs.Laws.{IsSoundLayout}
 use Rattle.pybuf_table.specs.Records.{RecordFormat, IsRecordFormat, is_whole}
 use Rattle.pybuf_table.specs.FieldTexts.{field_text}
 use Rattle.pybuf_table.specs.FieldViews.{field_layout, field_descriptor, view_of_field, with_field_view}
-use Rattle.pybuf_table.proofs.FieldLemmas.{unit_within}
 use Rattle.pybuf_table.proofs.Spelled.{field_spelled}
 
 pub fields_within : (count len size : ℕ) → len ≤ size → count * len ≤ count * size
@@ -63,13 +62,10 @@ layout_is r place count readonly =
 below : (size offset len from count : ℕ) → offset + len ≤ size → All (λ (n : ℕ). start_of size offset n + len ≤ (from + count) * size) (range_with_len from count)
 below size offset len from zero inside = All-nil (λ (n : ℕ). start_of size offset n + len ≤ (from + zero) * size)
 below size offset len from (suc count) inside =
-    let one : from * size + size ≤ (from + suc count) * size = unit_within from (from + suc count) size (omega arith) in
+    let one : from * size + size ≤ (from + suc count) * size = item_ends_before_next from (from + suc count) size (omega arith) in
     let same : from + 1 + count ≡ from + suc count = omega arith in
     let rest : All (λ (n : ℕ). start_of size offset n + len ≤ (from + suc count) * size) (range_with_len (from + 1) count) = rw (← same) (below size offset len (from + 1) count inside) in
     All-cons (λ (n : ℕ). start_of size offset n + len ≤ (from + suc count) * size) from (range_with_len (from + 1) count) (omega (arith, one)) rest
-
-whole_count : (len size : ℕ) → len % size ≡ 0 → len / size * size ≡ len
-whole_count len size whole = let all : len / size * size + len % size ≡ len = div-add-mod' len size in omega (arith, all, whole)
 
 all_below : (size offset len count room : ℕ) → offset + len ≤ size → count * size ≡ room → All (λ (n : ℕ). start_of size offset n + len ≤ room) (range_with_len 0 count)
 all_below size offset len count room inside whole =
@@ -77,9 +73,6 @@ all_below size offset len count room inside whole =
     rw (← same) (below size offset len 0 count inside)
 
 -- ---- what is kept is valid
-
-apart_from_zero : (size : ℕ) → 0 < size → pos size ≢ pos 0
-apart_from_zero size some is = let same : size ≡ 0 = cc in omega (arith, same)
 
 inside_of : (len room x : ℕ) → x + len ≤ room → IsInside len room (pos x)
 inside_of len room x within = record { low = omega (arith, ints); high = omega (arith, ints, within) }
@@ -104,7 +97,7 @@ field_placed r place count room readonly some small inside long whole fits =
         some_size = long;
         size_fits = omega (arith, short, small);
         few_dimensions = omega arith;
-        strides = All-cons (λ (dim : ℕ × ℤ × ℤ). dim.1 ≢ pos 0) (count, pos size, pos 0) [] (apart_from_zero size some) (All-nil (λ (dim : ℕ × ℤ × ℤ). dim.1 ≢ pos 0));
+        strides = All-cons (λ (dim : ℕ × ℤ × ℤ). dim.1 ≢ pos 0) (count, pos size, pos 0) [] (positive_is_nonzero size some) (All-nil (λ (dim : ℕ × ℤ × ℤ). dim.1 ≢ pos 0));
         suboffsets = All-cons (λ (dim : ℕ × ℤ × ℤ). dim.2 ≡ pos 0) (count, pos size, pos 0) [] refl (All-nil (λ (dim : ℕ × ℤ × ℤ). dim.2 ≡ pos 0));
         later_entries = All-nil (λ (dim : ℕ × ℤ × ℤ). 0 < dim.0);
         extent_fits = entries_fit count len (omega (arith, short, small)) bytes;
@@ -129,7 +122,7 @@ field_view_sound reads e r k place is there small inside long some whole =
         sized = sized_by place.length spelled.format (format_of (field_text r.text place)) some spelled.spelled spelled.sized;
         counted = length-map-range_with_len (start_of size place.offset) 0 count ∙ omega arith;
       };
-      inside = All-map (λ (start : ℕ). start + place.length ≤ length e.bytes) (start_of size place.offset) (range_with_len 0 count) (all_below size place.offset place.length count (length e.bytes) inside (whole_count (length e.bytes) size whole));
+      inside = All-map (λ (start : ℕ). start + place.length ≤ length e.bytes) (start_of size place.offset) (range_with_len 0 count) (all_below size place.offset place.length count (length e.bytes) inside (whole_quotient (length e.bytes) size whole));
       readonly = λ held. held;
     }
 
@@ -141,7 +134,7 @@ okay after = Ok after
 pub view_placed : (r : RecordFormat) (place : Field) (bytes : List ℕ) (len size offset : ℕ) (readonly : Bool) (d : Descriptor) → len ≡ length bytes → size ≡ r.format.size → 0 < size → size < 2 ^ 63 → len < 2 ^ 63
     → place.offset + place.length ≤ r.format.size → 0 < place.length → len % size ≡ 0 → d ≡ field_descriptor r place (len / size) readonly → offset ≡ place.offset → IsPlaced d offset
 view_placed r place bytes len size offset readonly d len_is size_is some small room inside long whole d_is offset_is =
-    let total : len / size * r.format.size ≡ len = rw (← size_is) (whole_count len size whole) in
+    let total : len / size * r.format.size ≡ len = rw (← size_is) (whole_quotient len size whole) in
     let placed : IsPlaced (field_descriptor r place (len / size) readonly) place.offset =
     field_placed r place (len / size) len readonly (rw size_is at some) (rw size_is at small) inside long total room in
     rw (d_is, offset_is) placed

@@ -2,7 +2,6 @@ pub mod RowLemmas
 pub mod RowFormatLemmas
 pub mod FieldLemmas
 pub mod ChosenLemmas
-pub mod Words
 pub mod Spelled
 pub mod FieldViewLemmas
 pub mod Numbered

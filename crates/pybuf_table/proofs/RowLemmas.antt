@@ -1,29 +1,13 @@
 -- The first record of bytes, and the records after it.
-use Rattle.std.proofs.Common.{◌≡◌, ℕ, suc, ◌+◌, ◌-◌, ◌*◌, ◌<◌, ◌≤◌, ◌/◌, ◌%◌, List, ◌∷◌, length, take, drop, sym, ap, ◌∙◌, inl, inr, arith}
+use Rattle.std.proofs.Common.{◌≡◌, ℕ, ◌-◌, ◌<◌, ◌≤◌, ◌%◌, List, ◌∷◌, length, take, drop, sym, ap, ◌∙◌, inl, inr, arith}
 use Rattle.std.proofs.lemmas.Bool.{cases_lt}
 use Rattle.std.proofs.lemmas.List.{length-drop}
-use Rattle.std.proofs.lemmas.Nat.{div-mul-add, div-add-mod'}
 use Rattle.std.proofs.Math.Nat.{mod-eq-sub-mod, mod-eq_of_lt}
+use Rattle.pybuf_table.specs.Facts.{rows_more}
 use Rattle.pybuf_value.specs.declared.values.Scalar.{Scalar}
 use Rattle.pybuf_struct.specs.Formats.{Format}
 use Rattle.pybuf_struct.specs.Values.{values}
-use Rattle.pybuf_table.specs.Records.{rows, rows_of, IsLeft}
-
--- If a length has room for one size, it has room for one more than the rest has.
-pub quotient_more : (len size : ℕ) → 0 < size → size ≤ len → len / size ≡ suc ((len - size) / size)
-quotient_more len size some within =
-    let q : ℕ = (len - size) / size in
-    let r : ℕ = (len - size) % size in
-    let whole : q * size + r ≡ len - size = div-add-mod' (len - size) size in
-    let small : r < size = omega arith in
-    let same : suc q * size + r ≡ len = omega (arith, whole) in
-    ap (λ (n : ℕ). n / size) (sym same) ∙ div-mul-add (suc q) size r small
-
-pub rows_more : (f : Format) (bytes : List ℕ) → 0 < f.size → f.size ≤ length bytes → rows f bytes ≡ values f (take f.size bytes) ∷ rows f (drop f.size bytes)
-rows_more f bytes some within =
-    let left : length (drop f.size bytes) ≡ length bytes - f.size = length-drop f.size bytes in
-    let count : length bytes / f.size ≡ suc (length (drop f.size bytes) / f.size) = quotient_more (length bytes) f.size some within ∙ ap (λ (n : ℕ). suc (n / f.size)) (sym left) in
-    ap (λ (n : ℕ). rows_of f n bytes) count
+use Rattle.pybuf_table.specs.Records.{rows, IsLeft}
 
 pub left_more : (f : Format) (bytes : List ℕ) → IsLeft f bytes → f.size ≤ length bytes → IsLeft f (drop f.size bytes)
 left_more f bytes is within = record {

@@ -1,13 +1,16 @@
 -- `set` of an item through a view of a field.
 use Rattle.std.proofs.Common.{◌≡◌, ◌≢◌, ℕ, ◌+◌, ◌*◌, ◌<◌, ◌≤◌, ◌/◌, Bool, true, false, true≢false, List, [], ◌∷◌, length, take, drop, Some, Result, Ok, Err, refl, sym, ap, ◌∙◌, subst, inl, inr, ◌⊎◌, eqb, arith}
-use Rattle.std.specs.Prelude.{slice_get, slice_index, ◌&&◌, nat_lt, if◌then◌else◌}
+use Rattle.std.specs.Prelude.{slice_get, slice_index, nat_lt}
 use Rattle.std.proofs.lemmas.Bool.{cases_lt, eqb-true}
 use Rattle.std.proofs.lemmas.List.FromFn.{length-map-range_with_len, get_or-map-range_with_len}
+use Rattle.pybuf_lemmas.proofs.Booleans.{both_of}
+use Rattle.pybuf_lemmas.proofs.Numbers.{item_ends_before_next}
+use Rattle.pybuf_exporter.specs.Facts.{okay, answered_ok, set_by_item}
+use Rattle.pybuf_verbs_writes.specs.Facts.{bytes_before_piece}
 use Rattle.pybuf_value.specs.declared.faults.Fault.{Fault}
 use Rattle.pybuf_value.specs.declared.faults.Fault.TheVariants as fault
 use Rattle.pybuf_value.specs.declared.values.Scalar.{Scalar}
 use Rattle.pybuf_value.specs.declared.values.Value.{Value}
-use Rattle.pybuf_value.specs.declared.values.Value.TheVariants as value
 use Rattle.pybuf_value.specs.declared.snaps.Snap.{Snap}
 use Rattle.pybuf_value.specs.Refusing.{◌>>=◌, unless}
 use Rattle.pybuf_struct.specs.Formats.{Format, Field, format_of, fields}
@@ -22,7 +25,7 @@ use Rattle.pybuf_command.specs.declared.commands.Verb.TheVariants as verb
 use Rattle.pybuf_command.specs.declared.commands.LocalReply.{LocalReply}
 use Rattle.pybuf_command.specs.declared.commands.LocalReply.TheVariants as reply
 use Rattle.pybuf_command.specs.Handles.{handles_of, handles_read}
-use Rattle.pybuf_memoryview.specs.Items.{is_slice, is_none, scalar_in, kind_fault, piece_by}
+use Rattle.pybuf_memoryview.specs.Items.{is_none, scalar_in, kind_fault, piece_by}
 use Rattle.pybuf_memoryview.specs.Keys.{item_of_key}
 use Rattle.pybuf_memoryview.specs.Laws.{KeysNameItems}
 use Rattle.pybuf_memoryview.specs.Sized.{is_sized, is_size_of}
@@ -30,33 +33,14 @@ use Rattle.pybuf_state.specs.Exporter.{Exporter, live_layout}
 use Rattle.pybuf_state.specs.Loans.{Lent, are_named, lents_by, names_of, snaps_of}
 use Rattle.pybuf_state.specs.Laws.{IsSoundLayout, LiveLayoutsAreSound}
 use Rattle.pybuf_verbs_writes.specs.Laid.{bytes_with}
-use Rattle.pybuf_verbs_writes.specs.Set.{item_set, set_of_view}
-use Rattle.pybuf_exporter.specs.Step.{set_through_view, settled_answer}
+use Rattle.pybuf_verbs_writes.specs.Set.{item_set}
+use Rattle.pybuf_exporter.specs.Step.{set_through_view}
 use Rattle.pybuf_table.specs.Records.{RecordFormat}
 use Rattle.pybuf_table.specs.FieldViews.{field_layout, view_of_field}
 use Rattle.pybuf_table.specs.Laws.{record_at, IsFieldSet, SetsChangeOneField}
-use Rattle.pybuf_table.proofs.FieldLemmas.{unit_within}
-use Rattle.pybuf_table.proofs.Staying.{bytes_stay, part_of_part, before_piece, after_piece, as_long, spread_inside, spread_apart}
+use Rattle.pybuf_table.proofs.Staying.{bytes_stay, part_of_part, after_piece, as_long, spread_inside, spread_apart}
 
 -- ---- the row
-
-abbrev okay : Exporter × LocalReply → Result (Exporter × LocalReply) Fault
-okay after = Ok after
-
-refused_not : (f : Fault) → reply.Refused f ≡ reply.Ok → ⊥
-refused_not f is = absurd (cc)
-
-answered_ok : (e new : Exporter) (named : Bool) (row : Result (Exporter × LocalReply) Fault) → settled_answer e (if named then row else Err fault.UnknownName) ≡ (new, reply.Ok) → row ≡ okay (new, reply.Ok)
-answered_ok e new true (Ok after) is = ap okay is
-answered_ok e new true (Err f) is = absurd (refused_not f (ap (λ (after : Exporter × LocalReply). after.1) is))
-answered_ok e new false row is = absurd (refused_not fault.UnknownName (ap (λ (after : Exporter × LocalReply). after.1) is))
-
-by_item : (e : Exporter) (k : ℕ) (key v : Value) (lents : List Lent) → is_slice key ≡ false → set_through_view e k key v lents ≡ set_of_view e k key v lents
-by_item e k (value.Slice slice) v lents is = absurd (true≢false is)
-by_item e k (value.One s) v lents is = refl
-by_item e k (value.Tuple parts) v lents is = refl
-by_item e k (value.List parts) v lents is = refl
-by_item e k (value.Slices slices) v lents is = refl
 
 -- what holds of the item that was set
 pub record IsItemSet (e new : Exporter) (layout : Layout) (key v : Value) (lents : List Lent) : Type 0 where
@@ -88,11 +72,6 @@ pub record IsPieceSet (e new : Exporter) (layout : Layout) (item : ℕ) : Type 0
   pub long : length piece ≡ layout.itemsize
   pub done : new ≡ record e { bytes = bytes_with e.bytes (slice_index layout.starts item) piece }
 
-both_true : (a b : Bool) → (a && b) ≡ true → (a ≡ true) × (b ≡ true)
-both_true true true is = (refl, refl)
-both_true true false is = absurd (true≢false (sym is))
-both_true false b is = absurd (true≢false (sym is))
-
 packed_as : PackingFillsTheFormat → (text : List ℕ) (f : Format) (pairs : List (ℕ × Snap)) (args : List Scalar) (piece : List ℕ) (bytes : Result (List ℕ) Fault) → format_of text ≡ Ok f → packed_bytes f pairs args ≡ bytes
     → kind_fault bytes ≡ Ok piece → length piece ≡ f.size
 packed_as fills text f pairs args piece (Err g) read is done = absurd (cc)
@@ -104,7 +83,7 @@ packed : PackingFillsTheFormat → (text : List ℕ) (pairs : List (ℕ × Snap)
     → (kind_fault format >>= λ f. kind_fault (packed_bytes f pairs args)) ≡ Ok piece → length piece ≡ size
 packed fills text pairs args size piece (Err f) read sized is = absurd (true≢false (sym sized))
 packed fills text pairs args size piece (Ok f) read sized is =
-    packed_as fills text f pairs args piece (packed_bytes f pairs args) read refl is ∙ eqb-true f.size size (both_true (nat_lt 0 size) (eqb f.size size) sized).1
+    packed_as fills text f pairs args piece (packed_bytes f pairs args) read refl is ∙ eqb-true f.size size (both_of (nat_lt 0 size) (eqb f.size size) sized).1
 
 abbrev with_piece : Exporter → ℕ → List ℕ → Exporter
 with_piece e start piece = record e { bytes = bytes_with e.bytes start piece }
@@ -134,8 +113,8 @@ start_is r place count number readonly less = get_or-map-range_with_len (start_o
 other_records : (number other size offset len : ℕ) → offset + len ≤ size → other ≢ number → (other * size + size ≤ start_of size offset number) ⊎ (start_of size offset number + len ≤ other * size)
 other_records number other size offset len inside apart =
     elim (cases_lt other number) [
-      | inl less ↦ let within : other * size + size ≤ number * size = unit_within other number size less in inl (omega (arith, within))
-      | inr more ↦ let within : number * size + size ≤ other * size = unit_within number other size (omega (arith, more, apart)) in inr (omega (arith, within, inside))
+      | inl less ↦ let within : other * size + size ≤ number * size = item_ends_before_next other number size less in inl (omega (arith, within))
+      | inr more ↦ let within : number * size + size ≤ other * size = item_ends_before_next number other size (omega (arith, more, apart)) in inr (omega (arith, within, inside))
     ]
 
 -- another field of the same record
@@ -162,7 +141,7 @@ field_set r field place e new number piece spread there less long fits done =
     let bytes : new.bytes ≡ bytes_with e.bytes start piece = ap (λ (x : Exporter). x.bytes) done in
     let within : start ≤ length e.bytes = omega (arith, fits) in
     let ends : start + length piece ≡ start + place.length = ap (λ (n : ℕ). start + n) long in
-    let before : take start new.bytes ≡ take start e.bytes = ap (take start) bytes ∙ before_piece e.bytes piece start within in
+    let before : take start new.bytes ≡ take start e.bytes = ap (take start) bytes ∙ bytes_before_piece e.bytes piece start within in
     let behind : drop (start + place.length) new.bytes ≡ drop (start + place.length) e.bytes = rw (← ends) (ap (drop (start + length piece)) bytes ∙ after_piece e.bytes piece start within) in
     let inside = spread_inside 0 size (fields r.format) field place spread there in
     let stay : (at count : ℕ) → (at + count ≤ start) ⊎ (start + place.length ≤ at) → bytes_at new.bytes count at ≡ bytes_at e.bytes count at = λ at count outside. bytes_stay new.bytes e.bytes start (start + place.length) at count before behind outside in
@@ -187,7 +166,7 @@ one_field_set order fills keys lives r field place e new k key v loans is there 
     let count = length e.bytes / r.format.size in
     let lents = lents_by e (names_of loans) (handles_read (subject.View k) (verb.Set key v)) in
     let row : set_through_view e k key v lents ≡ okay (new, reply.Ok) = answered_ok e new (are_named e (names_of loans) (handles_of (verb.Set key v))) (set_through_view e k key v lents) done in
-    let set : IsItemSet e new layout key v lents = set_by e new layout key v lents (live_layout e k) live (sym (by_item e k key v lents not_slice) ∙ row) in
+    let set : IsItemSet e new layout key v lents = set_by e new layout key v lents (live_layout e k) live (sym (set_by_item e k key v lents not_slice) ∙ row) in
     let safe : IsSoundLayout e layout = lives e k layout sound live in
     let number = set.item in
     let less : number < count = let below : number < product (count ∷ []) = keys (count ∷ []) key number set.named in omega (arith, below) in

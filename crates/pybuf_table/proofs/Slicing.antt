@@ -5,6 +5,7 @@ use Rattle.std.specs.List.{flat_map, range_with_len}
 use Rattle.std.proofs.lemmas.Bool.{cases_order}
 use Rattle.std.proofs.lemmas.List.Elements.{All-nil, All-take, All-drop, All-append, All-map}
 use Rattle.std.proofs.lemmas.List.FromFn.{length-range_with_len, get_or-range_with_len}
+use Rattle.pybuf_lemmas.proofs.Numbers.{item_ends_before_next}
 use Rattle.pybuf_value.specs.declared.faults.Fault.{Fault}
 use Rattle.pybuf_struct.specs.Formats.{Field, fields}
 use Rattle.pybuf_struct.specs.Laws.{Spread, FieldsLieInOrder}
@@ -18,7 +19,6 @@ use Rattle.pybuf_exporter.specs.Assigning.{IsAssignedByValue, StepsAssignByValue
 use Rattle.pybuf_table.specs.Records.{RecordFormat}
 use Rattle.pybuf_table.specs.FieldViews.{view_of_field}
 use Rattle.pybuf_table.specs.Laws.{SlicesChangeOneField}
-use Rattle.pybuf_table.proofs.FieldLemmas.{unit_within}
 use Rattle.pybuf_table.proofs.Staying.{spread_inside}
 use Rattle.pybuf_table.proofs.Setting.{other_fields, field_stays}
 
@@ -60,8 +60,8 @@ apart_from fs size field k place other number one spread there is apart =
     elim (cases_order one number) [
       | inl same ↦ rw same (elim (other_fields fs size field k place other (number * size) spread there is apart) [ inl before ↦ inr before | inr behind ↦ inl behind ])
       | inr order ↦ elim order [
-        | inl less ↦ let past : one * size + size ≤ number * size = unit_within one number size less in inl (omega (arith, past, inside))
-        | inr more ↦ let past : number * size + size ≤ one * size = unit_within number one size more in inr (omega (arith, past, within))
+        | inl less ↦ let past : one * size + size ≤ number * size = item_ends_before_next one number size less in inl (omega (arith, past, inside))
+        | inr more ↦ let past : number * size + size ≤ one * size = item_ends_before_next number one size more in inr (omega (arith, past, within))
       ]
     ]
 

@@ -1,29 +1,25 @@
 -- The format of one field is a format of its length.
-use Rattle.std.proofs.Common.{◌≡◌, ℕ, zero, suc, ◌+◌, ◌-◌, ◌^◌, ◌<◌, Bool, true, false, cond, eqb, ltb, List, [], ◌∷◌, ◌++◌, length, map, Option, Some, None, Ok, IsTrue, refl, sym, ap, ◌∙◌, subst, inl, inr, arith}
-use Rattle.std.specs.Prelude.{ok_or, slice_get, codes, drop, ◌||◌}
-use Rattle.std.specs.Char.{is_ascii_digit}
-use Rattle.std.specs.List.{AllByRecursion, take_while}
+use Rattle.std.proofs.Common.{◌≡◌, ℕ, zero, suc, ◌+◌, ◌-◌, ◌^◌, ◌<◌, Bool, true, false, cond, eqb, List, [], ◌∷◌, ◌++◌, length, Option, Some, None, Ok, IsTrue, refl, sym, ap, ◌∙◌, subst, inl, inr, arith}
+use Rattle.std.specs.Prelude.{slice_get, codes, ◌||◌}
+use Rattle.std.specs.List.{AllByRecursion}
 use Rattle.std.specs.Fmt.{decimal}
 use Rattle.std.proofs.lemmas.Bool.{cases_lt, eqb-true}
 use Rattle.std.proofs.Math.Nat.{zero-mod}
-use Rattle.pybuf_value.specs.declared.faults.Fault.TheVariants as fault
+use Rattle.pybuf_struct.specs.Facts.{some, ok_or_some, read_allowed, codes_allowed, laid_again}
 use Rattle.pybuf_value.specs.Choosing.{◌>>=◌}
 use Rattle.pybuf_struct.specs.declared.table.Endianness.{Endianness}
 use Rattle.pybuf_struct.specs.declared.table.Endianness.TheVariants as order
 use Rattle.pybuf_struct.specs.declared.table.FormatType.{FormatType}
 use Rattle.pybuf_struct.specs.declared.table.FormatType.TheVariants as code
-use Rattle.pybuf_struct.specs.Table.{code_of, is_allowed, size_of, alignment_of}
-use Rattle.pybuf_struct.specs.Formats.{CountedCode, Code, Format, Field, codes_in, each_code, counted_code, count_of, code_after, allowed_code, layout_from, format_after_prefix, format_of, prefix_of, parts_of, padding, code_at, offset_after, fields_in_row, fields_of_code, fields_from, fields, field_count}
-use Rattle.pybuf_struct.specs.FormatTexts.{WrittenCode, IsPrefixOf, IsTextOfCount, text_of_codes, items_of_codes, item_of_code, end_after}
+use Rattle.pybuf_struct.specs.Table.{is_allowed, size_of, alignment_of}
+use Rattle.pybuf_struct.specs.Formats.{CountedCode, Code, Format, Field, codes_in, layout_from, format_after_prefix, format_of, prefix_of, padding, code_at, offset_after, fields_in_row, fields_of_code, fields_from, fields, field_count}
+use Rattle.pybuf_struct.specs.FormatTexts.{WrittenCode, IsPrefixOf, IsTextOfCount, text_of_codes, items_of_codes, end_after}
 use Rattle.pybuf_struct.specs.Laws.{FormatsReadBack}
 use Rattle.pybuf_struct.specs.Values.{is_length}
 use Rattle.pybuf_table.specs.FieldTexts.{prefix_text, code_text, field_text}
 use Rattle.pybuf_table.proofs.FieldLemmas.{field_here, field_later}
 
 -- ---- the parts of a format that a text spells
-
-abbrev some : {A : Type 0} → A → Option A
-some x = Some x
 
 pub record IsLaid (o : Endianness) (text : List ℕ) (f : Format) : Type 0 where
   pub items : List CountedCode
@@ -48,83 +44,13 @@ laid_after : (o : Endianness) (text : List ℕ) (f : Format) → format_after_pr
 unfolding format_after_prefix
 laid_after o text f is = laid_items o text (codes_in o text) f refl is
 
-ok_or_some : (o : Option Format) (f : Format) → ok_or o fault.Struct ≡ Ok f → o ≡ Some f
-ok_or_some None f is = absurd cc
-ok_or_some (Some g) f is = ap some (let same : g ≡ f = cc in same)
-
 pub laid_of : (text : List ℕ) (f : Format) → format_of text ≡ Ok f → IsLaid (prefix_of text).0 (prefix_of text).1 f
 laid_of text f is = laid_after (prefix_of text).0 (prefix_of text).1 f (ok_or_some (format_after_prefix (prefix_of text).0 (prefix_of text).1) f is)
 
 -- ---- each code of a format is one that formats of its prefix have
 
-abbrev pub AreAllowed : Endianness → List CountedCode → Type 0
-AreAllowed o items = AllByRecursion (λ item. is_allowed o item.code ≡ true) items
-
 abbrev pub CodesAllowed : Endianness → List Code → Type 0
 CodesAllowed o codes = AllByRecursion (λ c. is_allowed o c.code ≡ true) codes
-
-allowed_if : (o : Endianness) (c d : FormatType) (b : Bool) → is_allowed o c ≡ b → cond b (Some c) None ≡ some d → is_allowed o d ≡ true
-allowed_if o c d true allowed is = let same : c ≡ d = cc in subst (λ (e : FormatType). is_allowed o e ≡ true) same allowed
-allowed_if o c d false allowed is = absurd cc
-
-allowed_some : (o : Endianness) (found : Option FormatType) (d : FormatType) → (found >>= λ c. cond (is_allowed o c) (Some c) None) ≡ some d → is_allowed o d ≡ true
-allowed_some o None d is = absurd cc
-allowed_some o (Some c) d is = allowed_if o c d (is_allowed o c) refl is
-
-counted_some : (o : Endianness) (count : ℕ) (found : Option FormatType) (item : CountedCode) → ((d : FormatType) → found ≡ some d → is_allowed o d ≡ true)
-    → (found >>= λ c. Some (record { repeat = count; code = c })) ≡ some item → is_allowed o item.code ≡ true
-counted_some o count None item allowed is = absurd cc
-counted_some o count (Some c) item allowed is =
-    let same : record { repeat = count; code = c } ≡ item = cc in
-    subst (λ (i : CountedCode). is_allowed o i.code ≡ true) same (allowed c refl)
-
-after_allowed : (o : Endianness) (count : ℕ) (rest : List ℕ) (item : CountedCode) → code_after o count rest ≡ some item → is_allowed o item.code ≡ true
-after_allowed o count [] item is = absurd cc
-after_allowed o count (b ∷ []) item is = counted_some o count (allowed_code o b) item (λ d e. allowed_some o (code_of b) d e) is
-after_allowed o count (b ∷ c ∷ rest) item is = absurd cc
-
-abbrev onto : CountedCode → List CountedCode → Option (List CountedCode)
-onto item others = Some (item ∷ others)
-
-each_by : (o : Endianness) (first : Option CountedCode) (others : Option (List CountedCode)) (items : List CountedCode)
-    → ((item : CountedCode) → first ≡ some item → is_allowed o item.code ≡ true) → ((rest : List CountedCode) → others ≡ some rest → AreAllowed o rest)
-    → (first >>= λ item. others >>= onto item) ≡ some items → AreAllowed o items
-each_by o None others items one all is = absurd cc
-each_by o (Some item) None items one all is = absurd cc
-each_by o (Some item) (Some rest) items one all is =
-    let same : item ∷ rest ≡ items = cc in
-    subst (AreAllowed o) same (one item refl, all rest refl)
-
-each_allowed : (o : Endianness) (parts : List (List ℕ)) (items : List CountedCode) → each_code o parts ≡ some items → AreAllowed o items
-each_allowed o [] items is = let nothing : List CountedCode = [] in let same : nothing ≡ items = cc in subst (AreAllowed o) same tt
-each_allowed o (part ∷ parts) items is =
-    each_by o (counted_code o part) (each_code o parts) items
-    (λ item e. after_allowed o (count_of (take_while is_ascii_digit part)) (drop (length (take_while is_ascii_digit part)) part) item e)
-    (λ rest e. each_allowed o parts rest e) is
-
-read_allowed : (o : Endianness) (text : List ℕ) (items : List CountedCode) → codes_in o text ≡ some items → AreAllowed o items
-unfolding codes_in
-read_allowed o text items is = each_allowed o (parts_of text) items is
-
-abbrev with_code : Code → List Code × ℕ → Option (List Code × ℕ)
-with_code c l = Some (c ∷ l.0, l.1)
-
-codes_by : (o : Endianness) (c : Code) (r : Bool) (rest : Option (List Code × ℕ)) (l : List Code × ℕ) → is_allowed o c.code ≡ true → ((k : List Code × ℕ) → rest ≡ some k → CodesAllowed o k.0) → cond r (rest >>= with_code c) None ≡ some l → CodesAllowed o l.0
-codes_by o c false rest l one all is = absurd cc
-codes_by o c true None l one all is = absurd cc
-codes_by o c true (Some k) l one all is =
-    let same : (c ∷ k.0, k.1) ≡ l = cc in
-    subst (λ (m : List Code × ℕ). CodesAllowed o m.0) same (one, all k refl)
-
-codes_allowed : (o : Endianness) (offset : ℕ) (items : List CountedCode) (l : List Code × ℕ) → AreAllowed o items → layout_from o offset items ≡ some l → CodesAllowed o l.0
-unfolding layout_from
-codes_allowed o offset [] l are is =
-    let nothing : List Code × ℕ = ([], offset) in
-    let same : nothing ≡ l = cc in
-    subst (λ (m : List Code × ℕ). CodesAllowed o m.0) same tt
-codes_allowed o offset (item ∷ items) l are is =
-    codes_by o (code_at o offset item) (ltb (offset_after o offset (code_at o offset item)) (2 ^ 63)) (layout_from o (offset_after o offset (code_at o offset item)) items) l are.0
-    (λ k e. codes_allowed o (offset_after o offset (code_at o offset item)) items k are.1 e) is
 
 -- a field of a code has it
 in_row : (c : FormatType) (size offset count k : ℕ) (place : Field) → slice_get (fields_in_row c size offset count) k ≡ Some place → place.code ≡ c
@@ -171,30 +97,6 @@ spelled_allowed text f k place is there =
     let codes = codes_allowed o 0 laid.items (f.codes, f.size) (read_allowed o (prefix_of text).1 laid.items laid.read) laid.laid in
     let there' : slice_get (fields_from o 0 f.codes) k ≡ Some place = rw laid.order at there in
     (laid.order, rw laid.order (field_allowed o 0 f.codes k place codes there'))
-
--- ---- the layout has the codes of the text, and ends where these end
-
-abbrev Again : Endianness → ℕ → List CountedCode → List Code × ℕ → Type 0
-Again o offset items l = (map item_of_code l.0 ≡ items) × (l.1 ≡ end_after o offset items)
-
-again_by : (o : Endianness) (offset : ℕ) (item : CountedCode) (items : List CountedCode) (r : Bool) (rest : Option (List Code × ℕ)) (l : List Code × ℕ)
-    → ((k : List Code × ℕ) → rest ≡ some k → Again o (offset_after o offset (code_at o offset item)) items k) → cond r (rest >>= with_code (code_at o offset item)) None ≡ some l → Again o offset (item ∷ items) l
-again_by o offset item items false rest l after is = absurd cc
-again_by o offset item items true None l after is = absurd cc
-again_by o offset item items true (Some k) l after is =
-    let same : (code_at o offset item ∷ k.0, k.1) ≡ l = cc in
-    let left = after k refl in
-    subst (Again o offset (item ∷ items)) same (ap (λ (others : List CountedCode). item ∷ others) left.0, left.1)
-
-laid_again : (o : Endianness) (offset : ℕ) (items : List CountedCode) (l : List Code × ℕ) → layout_from o offset items ≡ some l → Again o offset items l
-unfolding layout_from
-laid_again o offset [] l is =
-    let nothing : List Code × ℕ = ([], offset) in
-    let same : nothing ≡ l = cc in
-    subst (Again o offset []) same (refl, refl)
-laid_again o offset (item ∷ items) l is =
-    again_by o offset item items (ltb (offset_after o offset (code_at o offset item)) (2 ^ 63)) (layout_from o (offset_after o offset (code_at o offset item)) items) l
-    (λ k e. laid_again o (offset_after o offset (code_at o offset item)) items k e) is
 
 -- ---- one field, as it is written
 

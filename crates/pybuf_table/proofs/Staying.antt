@@ -1,7 +1,7 @@
 -- Bytes and fields that stay when others are written.
-use Rattle.std.proofs.Common.{◌≡◌, ℕ, zero, suc, ◌+◌, ◌-◌, ◌<◌, ◌≤◌, List, [], ◌∷◌, ◌++◌, length, take, drop, Some, sym, ap, ◌∙◌, subst, inl, inr, ◌⊎◌, append_assoc, arith}
+use Rattle.std.proofs.Common.{◌≡◌, ℕ, zero, suc, ◌+◌, ◌-◌, ◌<◌, ◌≤◌, List, [], ◌∷◌, ◌++◌, length, take, drop, Some, sym, ap, ◌∙◌, subst, inl, inr, ◌⊎◌, arith}
 use Rattle.std.specs.Prelude.{slice_get}
-use Rattle.std.proofs.lemmas.List.{drop-drop, drop-take, take-take, take_at, drop_at, length-take-le, length-drop, length-append}
+use Rattle.std.proofs.lemmas.List.{drop-drop, drop-take, take-take, drop_at, length-take-le, length-drop, length-append}
 use Rattle.pybuf_struct.specs.Formats.{Field}
 use Rattle.pybuf_struct.specs.Laws.{Spread}
 use Rattle.pybuf_desc.specs.Items.{bytes_at}
@@ -29,10 +29,6 @@ pub part_of_part : (bytes : List ℕ) (start size offset len : ℕ) → offset +
 part_of_part bytes start size offset len within = sym (front (drop start bytes) size offset len within) ∙ ap (take len) (drop-drop offset start bytes)
 
 -- ---- a piece over others
-
-pub before_piece : (bytes piece : List ℕ) (start : ℕ) → start ≤ length bytes → take start (bytes_with bytes start piece) ≡ take start bytes
-before_piece bytes piece start within =
-    ap (take start) (append_assoc (take start bytes) piece (drop (start + length piece) bytes)) ∙ take_at (take start bytes) (piece ++ drop (start + length piece) bytes) start (length-take-le start bytes within)
 
 pub after_piece : (bytes piece : List ℕ) (start : ℕ) → start ≤ length bytes → drop (start + length piece) (bytes_with bytes start piece) ≡ drop (start + length piece) bytes
 after_piece bytes piece start within =

@@ -6,3 +6,4 @@ pub mod Lending
 pub mod FieldTexts
 pub mod FieldViews
 pub mod Laws
+pub mod Facts

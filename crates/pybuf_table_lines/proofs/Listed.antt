@@ -1,14 +1,14 @@
 -- The records of bytes that are listed, one after another.
-use Rattle.std.proofs.Common.{◌≡◌, ℕ, suc, ◌+◌, ◌-◌, ◌*◌, ◌<◌, ◌≤◌, ◌/◌, ◌%◌, Bool, true, false, cond, List, [], ◌∷◌, ◌++◌, length, take, drop, map, Option, Some, None, refl, sym, ◌∙◌, ap, append_assoc, inl, inr, arith}
+use Rattle.std.proofs.Common.{◌≡◌, ℕ, ◌+◌, ◌-◌, ◌<◌, ◌≤◌, ◌/◌, ◌%◌, Bool, true, false, cond, List, [], ◌∷◌, ◌++◌, length, take, drop, map, Option, Some, None, refl, sym, ◌∙◌, ap, append_assoc, inl, inr, arith}
 use Rattle.std.specs.Prelude.{slice_get}
 use Rattle.std.specs.List.{filter, enumerate_from, flat_map}
 use Rattle.std.proofs.lemmas.Bool.{cases_lt}
 use Rattle.std.proofs.lemmas.Grind.{flat_map-append}
 use Rattle.std.proofs.lemmas.List.{append-nil, length-drop, length-take-le}
 use Rattle.std.proofs.lemmas.List.Elements.{filter-append}
-use Rattle.std.proofs.lemmas.Nat.{div-mul-add, div-add-mod'}
 use Rattle.std.proofs.Math.Nat.{mod-eq-sub-mod, mod-eq_of_lt, zero-div}
 use Rattle.std.proofs.Math.Seq.{take-length}
+use Rattle.pybuf_table.specs.Facts.{rows_more}
 use Rattle.pybuf_value.specs.declared.values.Scalar.{Scalar}
 use Rattle.pybuf_value.specs.declared.values.Scalar.TheVariants as scalar
 use Rattle.pybuf_struct.specs.Formats.{Format}
@@ -20,22 +20,6 @@ use Rattle.pybuf_table_lines.specs.Listings.{Listing, rows_listed}
 use Rattle.pybuf_table_lines.specs.Texts.{row_line, listing_text}
 
 -- ---- records
-
--- If a length has room for one size, it has room for one more than the rest has.
-quotient_more : (len size : ℕ) → 0 < size → size ≤ len → len / size ≡ suc ((len - size) / size)
-quotient_more len size some within =
-    let q : ℕ = (len - size) / size in
-    let r : ℕ = (len - size) % size in
-    let whole : q * size + r ≡ len - size = div-add-mod' (len - size) size in
-    let small : r < size = omega arith in
-    let same : suc q * size + r ≡ len = omega (arith, whole) in
-    ap (λ (n : ℕ). n / size) (sym same) ∙ div-mul-add (suc q) size r small
-
-rows_more : (f : Format) (bytes : List ℕ) → 0 < f.size → f.size ≤ length bytes → rows f bytes ≡ values f (take f.size bytes) ∷ rows f (drop f.size bytes)
-rows_more f bytes some within =
-    let left : length (drop f.size bytes) ≡ length bytes - f.size = length-drop f.size bytes in
-    let count : length bytes / f.size ≡ suc (length (drop f.size bytes) / f.size) = quotient_more (length bytes) f.size some within ∙ ap (λ (n : ℕ). suc (n / f.size)) (sym left) in
-    ap (λ (n : ℕ). rows_of f n bytes) count
 
 -- If there are as many bytes as one record has, there is this single record.
 pub row_alone : (f : Format) (alone : List ℕ) → 0 < f.size → length alone ≡ f.size → rows f alone ≡ values f alone ∷ []

@@ -1,5 +1,5 @@
 -- Two values are equal by Rust's `==` exactly if they are the same.
-use Rattle.std.proofs.Common.{◌≡◌, ℕ, Bool, true, false, ◌&&◌, List, refl, ap, sym, ◌∙◌, subst}
+use Rattle.std.proofs.Common.{◌≡◌, ℕ, Bool, true, false, List, refl, ap, sym, ◌∙◌, subst}
 use Rattle.std.specs.Bool.{Decides}
 use Rattle.std.specs.Cmp.Lexicographic.{pointwise}
 use Rattle.std.proofs.lemmas.Bool.{false≢true}
@@ -22,6 +22,7 @@ use Rattle.pybuf_value.specs.contracts.values.ItemPartialEq.TheImpl as item_eq
 use Rattle.pybuf_value.specs.contracts.snaps.SnapKindPartialEq.TheImpl as kind_eq
 use Rattle.pybuf_value.specs.contracts.snaps.SnapPartialEq.TheImpl as snap_eq
 use Rattle.std.specs.contracts.prelude.BoolPartialEq.TheImpl as bool_eq
+use Rattle.pybuf_lemmas.proofs.Booleans.{decided_alike, both_decided}
 use Rattle.pybuf_value.specs.Equality.{identical}
 use Rattle.pybuf_value.specs.Laws.{EqualExactly}
 use Rattle.pybuf_value.proofs.EqualityLemmas.{decides_same}
@@ -30,21 +31,6 @@ use Rattle.pybuf_value.proofs.EqualityLemmas.{decides_same}
 
 transferred : {b c : Bool} {P : Type 0} → b ≡ c → Decides c P → Decides b P
 transferred e d = (λ h. d.0 (sym e ∙ h), λ p. e ∙ d.1 p)
-
-moved : {b : Bool} {P Q : Type 0} → (P → Q) → (Q → P) → Decides b P → Decides b Q
-moved f g d = (λ h. f (d.0 h), λ q. d.1 (g q))
-
-both_parts : (a b : Bool) → a && b ≡ true → (a ≡ true) × (b ≡ true)
-both_parts true true h = (refl, refl)
-both_parts true false h = absurd (false≢true h)
-both_parts false b h = absurd (false≢true h)
-
-both_true : (a b : Bool) → a ≡ true → b ≡ true → a && b ≡ true
-both_true true b p q = q
-both_true false b p q = p
-
-and_decided : {P Q : Type 0} (a b : Bool) → Decides a P → Decides b Q → Decides (a && b) (P × Q)
-and_decided a b d e = (λ h. (d.0 (both_parts a b h).0, e.0 (both_parts a b h).1), λ p. both_true a b (d.1 p.0) (e.1 p.1))
 
 -- ---- values without parts
 
@@ -78,8 +64,8 @@ by_bounds x y p =
     ∙ ap (λ a. slice_with y.start y.stop a) p.1.1
 
 pub slices_same : (x y : PySlice) → Decides (slice_eq.eq-value.it x y) (x ≡ y)
-slices_same x y = moved (by_bounds x y) (λ p. (ap (λ s. s.start) p, (ap (λ s. s.stop) p, ap (λ s. s.step) p)))
-    (and_decided _ _ (scalars_same x.start y.start) (and_decided _ _ (scalars_same x.stop y.stop) (scalars_same x.step y.step)))
+slices_same x y = decided_alike (by_bounds x y) (λ p. (ap (λ s. s.start) p, (ap (λ s. s.stop) p, ap (λ s. s.step) p)))
+    (both_decided _ _ (scalars_same x.start y.start) (both_decided _ _ (scalars_same x.stop y.stop) (scalars_same x.step y.step)))
 
 slice_lists_same : (xs ys : List PySlice) → Decides (pointwise slice_eq.eq-value.it xs ys) (xs ≡ ys)
 slice_lists_same xs ys = slice_eq-Decides slices_same xs ys (pointwise slice_eq.eq-value.it xs ys) refl
@@ -158,12 +144,12 @@ by_fields x y p =
 
 pub snaps_same : (x y : Snap) → Decides (snap_eq.eq-value.it x y) (x ≡ y)
 snaps_same x y =
-    moved (by_fields x y)
+    decided_alike (by_fields x y)
     (λ p. (ap (λ s. s.kind) p, (ap (λ s. s.format) p, (ap (λ s. s.itemsize) p, (ap (λ s. s.shape) p, (ap (λ s. s.content) p, (ap (λ s. s.contiguous) p, ap (λ s. s.released) p)))))))
-    (and_decided _ _ (kinds_same x.kind y.kind) (and_decided _ _ (bytes_eq-Decides x.format y.format)
-    (and_decided _ _ (Decides-eqb x.itemsize y.itemsize) (and_decided _ _ (bytes_eq-Decides x.shape y.shape)
-    (and_decided _ _ (bytes_eq-Decides x.content y.content)
-    (and_decided _ _ (bools_same x.contiguous y.contiguous) (bools_same x.released y.released)))))))
+    (both_decided _ _ (kinds_same x.kind y.kind) (both_decided _ _ (bytes_eq-Decides x.format y.format)
+    (both_decided _ _ (Decides-eqb x.itemsize y.itemsize) (both_decided _ _ (bytes_eq-Decides x.shape y.shape)
+    (both_decided _ _ (bytes_eq-Decides x.content y.content)
+    (both_decided _ _ (bools_same x.contiguous y.contiguous) (bools_same x.released y.released)))))))
 
 pub same : EqualExactly
 same = record { texts = bytes_eq-Decides; scalars = scalars_same; slices = slices_same; values = values_same; items = items_same; snaps = snaps_same }

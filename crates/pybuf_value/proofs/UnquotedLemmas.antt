@@ -7,14 +7,11 @@ use Rattle.std.proofs.lemmas.List.Elements.{All-head, All-rest}
 use Rattle.std.proofs.lemmas.Bool.{eqb-true}
 use Rattle.std.proofs.lemmas.Bool.Decides.{nat_tests}
 use Rattle.std.proofs.lemmas.Nat.{div-add-mod'}
+use Rattle.pybuf_lemmas.proofs.Lists.{by_condition}
 use Rattle.hex.specs.Hex.{lower_digits}
 use Rattle.pybuf_value.specs.Quotes.{escaped_byte}
 use Rattle.pybuf_value.specs.Unquoted.{before, backslash, hexadecimal, digit, with_byte, closed, read_from, unquoted}
 use Rattle.pybuf_value.specs.Laws.{ReadBack}
-
-by_cond : (test : Bool) (s t : List ℕ) (G : List ℕ → Type 0) → (test ≡ true → G s) → (test ≡ false → G t) → G (cond test s t)
-by_cond true s t G held failed = held refl
-by_cond false s t G held failed = failed refl
 
 -- the value of each of the sixteen digits
 digit_read : (k : ℕ) → k < 16 → digit_value (slice_index lower_digits k) ≡ k
@@ -83,34 +80,34 @@ from_backslash q b = cond (b == 92) (92 ∷ 92 ∷ []) (from_tab b)
 single_read : (b : ℕ) (text : List ℕ) → b < 256 → read_from 39 before (escaped_byte 39 b ++ text) ≡ with_byte b (read_from 39 before text)
 single_read b text small =
     let G : List ℕ → Type 0 = λ s. read_from 39 before (s ++ text) ≡ with_byte b (read_from 39 before text) in
-    by_cond (b == 39) (92 ∷ b ∷ []) (from_backslash 39 b) G
+    by_condition (b == 39) (92 ∷ b ∷ []) (from_backslash 39 b) G
     (λ same. subst (λ n. read_from 39 before (92 ∷ n ∷ text) ≡ with_byte n (read_from 39 before text)) (sym (eqb-true b 39 same)) refl)
-    (λ quote. by_cond (b == 92) (92 ∷ 92 ∷ []) (from_tab b) G
+    (λ quote. by_condition (b == 92) (92 ∷ 92 ∷ []) (from_tab b) G
     (λ same. ap (λ n. with_byte n (read_from 39 before text)) (sym (eqb-true b 92 same)))
-    (λ slash. by_cond (b == 9) (92 ∷ 116 ∷ []) (from_feed b) G
+    (λ slash. by_condition (b == 9) (92 ∷ 116 ∷ []) (from_feed b) G
     (λ same. ap (λ n. with_byte n (read_from 39 before text)) (sym (eqb-true b 9 same)))
-    (λ tab. by_cond (b == 10) (92 ∷ 110 ∷ []) (from_return b) G
+    (λ tab. by_condition (b == 10) (92 ∷ 110 ∷ []) (from_return b) G
     (λ same. ap (λ n. with_byte n (read_from 39 before text)) (sym (eqb-true b 10 same)))
-    (λ feed. by_cond (b == 13) (92 ∷ 114 ∷ []) (from_printed b) G
+    (λ feed. by_condition (b == 13) (92 ∷ 114 ∷ []) (from_printed b) G
     (λ same. ap (λ n. with_byte n (read_from 39 before text)) (sym (eqb-true b 13 same)))
-    (λ carriage. by_cond (nat_le 32 b && nat_le b 126) (b ∷ []) (in_digits b) G
+    (λ carriage. by_condition (nat_le 32 b && nat_le b 126) (b ∷ []) (in_digits b) G
     (λ printed. plain_read 39 b text quote slash)
     (λ unprinted. byte_read 39 b text small))))))
 
 double_read : (b : ℕ) (text : List ℕ) → b < 256 → read_from 34 before (escaped_byte 34 b ++ text) ≡ with_byte b (read_from 34 before text)
 double_read b text small =
     let G : List ℕ → Type 0 = λ s. read_from 34 before (s ++ text) ≡ with_byte b (read_from 34 before text) in
-    by_cond (b == 34) (92 ∷ b ∷ []) (from_backslash 34 b) G
+    by_condition (b == 34) (92 ∷ b ∷ []) (from_backslash 34 b) G
     (λ same. subst (λ n. read_from 34 before (92 ∷ n ∷ text) ≡ with_byte n (read_from 34 before text)) (sym (eqb-true b 34 same)) refl)
-    (λ quote. by_cond (b == 92) (92 ∷ 92 ∷ []) (from_tab b) G
+    (λ quote. by_condition (b == 92) (92 ∷ 92 ∷ []) (from_tab b) G
     (λ same. ap (λ n. with_byte n (read_from 34 before text)) (sym (eqb-true b 92 same)))
-    (λ slash. by_cond (b == 9) (92 ∷ 116 ∷ []) (from_feed b) G
+    (λ slash. by_condition (b == 9) (92 ∷ 116 ∷ []) (from_feed b) G
     (λ same. ap (λ n. with_byte n (read_from 34 before text)) (sym (eqb-true b 9 same)))
-    (λ tab. by_cond (b == 10) (92 ∷ 110 ∷ []) (from_return b) G
+    (λ tab. by_condition (b == 10) (92 ∷ 110 ∷ []) (from_return b) G
     (λ same. ap (λ n. with_byte n (read_from 34 before text)) (sym (eqb-true b 10 same)))
-    (λ feed. by_cond (b == 13) (92 ∷ 114 ∷ []) (from_printed b) G
+    (λ feed. by_condition (b == 13) (92 ∷ 114 ∷ []) (from_printed b) G
     (λ same. ap (λ n. with_byte n (read_from 34 before text)) (sym (eqb-true b 13 same)))
-    (λ carriage. by_cond (nat_le 32 b && nat_le b 126) (b ∷ []) (in_digits b) G
+    (λ carriage. by_condition (nat_le 32 b && nat_le b 126) (b ∷ []) (in_digits b) G
     (λ printed. plain_read 34 b text quote slash)
     (λ unprinted. byte_read 34 b text small))))))
 

@@ -14,3 +14,4 @@ pub mod Halting
 pub mod Making
 pub mod Settling
 pub mod Laws
+pub mod Facts

@@ -1,16 +1,14 @@
 -- Equal views of single bytes have the same hash.
-use Rattle.std.proofs.Common.{◌≡◌, inl, inr, ℕ, ◌*◌, ◌<◌, List, [], ◌∷◌, length, drop, Bool, true, false, ap, sym, ◌∙◌, refl, arith}
-use Rattle.std.specs.Prelude.{◌==◌, ◌&&◌, not, nat_lt, Result, Ok, Err}
+use Rattle.std.proofs.Common.{◌≡◌, ℕ, ◌*◌, ◌<◌, List, [], ◌∷◌, length, drop, Bool, true, false, ap, sym, ◌∙◌, arith}
+use Rattle.std.specs.Prelude.{not, Result, Ok, Err}
 use Rattle.std.specs.List.{All}
-use Rattle.std.proofs.lemmas.Bool.{eqb-true}
 use Rattle.std.proofs.lemmas.List.Elements.{All-nil, All-append, All-take, All-drop}
+use Rattle.pybuf_equality.specs.Facts.{one_byte}
 use Rattle.pybuf_value.specs.declared.faults.Fault.{Fault}
 use Rattle.pybuf_value.specs.declared.faults.Fault.TheVariants as fault
 use Rattle.pybuf_value.specs.Refusing.{◌>>=◌, unless}
-use Rattle.pybuf_struct.specs.Formats.{codes_in, layout_from, format_after_prefix}
 use Rattle.pybuf_desc.specs.Layouts.{Layout}
 use Rattle.pybuf_desc.specs.Items.{bytes_at, bytes_of_items, content_of_layout}
-use Rattle.pybuf_memoryview.specs.Sized.{is_sized}
 use Rattle.pybuf_command.specs.declared.commands.LocalReply.{LocalReply}
 use Rattle.pybuf_command.specs.declared.commands.LocalReply.TheVariants as reply
 use Rattle.pybuf_memoryview.specs.Laws.{ContentsAreWhole}
@@ -43,19 +41,6 @@ hashed e k layout bytes found replied =
     hashed_by e layout (not layout.readonly) bytes (ap (λ (r : Result Layout Fault). r >>= λ l. after e l (not l.readonly)) (sym found) ∙ replied)
 
 -- ---- items of one byte
-
-both_true : (a b : Bool) → (a && b) ≡ true → (a ≡ true) × (b ≡ true)
-both_true true b is = (refl, is)
-both_true false b is = absurd (cc)
-
-one_of : (size : ℕ) → (nat_lt 0 size && 1 == size) ≡ true → size ≡ 1
-one_of size is = sym (eqb-true 1 size (both_true (nat_lt 0 size) (1 == size) is).1)
-
-one_byte : (format : List ℕ) (size : ℕ) → IsByteFormat format → is_sized format size ≡ true → size ≡ 1
-unfolding codes_in layout_from format_after_prefix
-one_byte format size (inl is) sized = one_of size (ap (λ text. is_sized text size) (sym is) ∙ sized)
-one_byte format size (inr (inl is)) sized = one_of size (ap (λ text. is_sized text size) (sym is) ∙ sized)
-one_byte format size (inr (inr is)) sized = one_of size (ap (λ text. is_sized text size) (sym is) ∙ sized)
 
 items_small : (bytes : List ℕ) (size : ℕ) (starts : List ℕ) → All (λ b. b < 256) bytes → All (λ b. b < 256) (bytes_of_items bytes size starts)
 items_small bytes size [] small = All-nil (λ b. b < 256)

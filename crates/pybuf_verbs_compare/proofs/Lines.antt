@@ -1,31 +1,27 @@
 -- If a subject is shown as a text, the text has no line feed.
-use Rattle.std.proofs.Common.{◌≡◌, ℕ, ◌/◌, ◌%◌, zero, suc, List, [], ◌∷◌, ◌++◌, slice_index, Bool, true, false, cond, ◌==◌, ◌||◌, ◌&&◌, not, codes, refl, ◌∙◌, ap, arith, tests}
+use Rattle.std.proofs.Common.{◌≡◌, ℕ, ◌/◌, ◌%◌, zero, suc, List, [], ◌∷◌, ◌++◌, Bool, true, false, cond, ◌==◌, ◌||◌, not, codes, refl, ◌∙◌, ap, arith, tests}
 use Rattle.std.specs.List.{flat_map, list_any}
 use Rattle.std.specs.Fmt.{digits, digits_onto, digit_glyph, decimal}
 use Rattle.std.proofs.lemmas.List.Folds.{list_any-append}
-use Rattle.hex.specs.Hex.{lower_digits}
+use Rattle.pybuf_lemmas.proofs.Lists.{HasNoFeed, hex_digit_is_no_line_end}
+use Rattle.pybuf_lemmas.proofs.Numbers.{digit_is_no_line_end}
+use Rattle.pybuf_value.specs.Facts.{quote_of_is_no_line_end}
 use Rattle.pybuf_value.specs.Quotes.{quote_of, escaped_byte, quoted_text, repr_of}
 use Rattle.pybuf_command.specs.declared.kinds.ExporterKind.{ExporterKind}
 use Rattle.pybuf_command.specs.declared.kinds.ExporterKind.TheVariants as kind
 use Rattle.pybuf_state.specs.Keeps.{is_one_line}
 use Rattle.pybuf_verbs_compare.specs.Repr.{shown_bytes, shown_view}
 
-abbrev HasNoFeed : List ℕ → Type 0
-HasNoFeed text = list_any (λ b. b == 10) text ≡ false
-
 both : (xs ys : List ℕ) → HasNoFeed xs → HasNoFeed ys → HasNoFeed (xs ++ ys)
 both xs ys h k = list_any-append (λ b. b == 10) xs ys ∙ (ap (λ b. b || list_any (λ c. c == 10) ys) h ∙ k)
 
 -- ---- decimal numbers
 
-glyph_single : (d : ℕ) → (digit_glyph false d == 10) ≡ false
-glyph_single d = grind (arith, tests)
-
 digits_step : (k n : ℕ) (last : Bool) (acc : List ℕ) → HasNoFeed acc → ((m : ℕ) (more : List ℕ) → HasNoFeed more → HasNoFeed (digits_onto k 10 false m more)) →
     HasNoFeed (cond last (digit_glyph false (n % 10) ∷ acc) (digits_onto k 10 false (n / 10) (digit_glyph false (n % 10) ∷ acc)))
-digits_step k n true acc h others = ap (λ b. b || list_any (λ c. c == 10) acc) (glyph_single (n % 10)) ∙ h
+digits_step k n true acc h others = ap (λ b. b || list_any (λ c. c == 10) acc) (digit_is_no_line_end (n % 10)) ∙ h
 digits_step k n false acc h others =
-    others (n / 10) (digit_glyph false (n % 10) ∷ acc) (ap (λ b. b || list_any (λ c. c == 10) acc) (glyph_single (n % 10)) ∙ h)
+    others (n / 10) (digit_glyph false (n % 10) ∷ acc) (ap (λ b. b || list_any (λ c. c == 10) acc) (digit_is_no_line_end (n % 10)) ∙ h)
 
 digits_single : (k n : ℕ) (acc : List ℕ) → HasNoFeed acc → HasNoFeed (digits_onto k 10 false n acc)
 digits_single zero n acc h = h
@@ -37,33 +33,17 @@ decimal_single n = digits_single 64 n [] refl
 
 -- ---- quoted bytes
 
--- a byte of a text without a line feed, or 0 past its end
-byte_single : (xs : List ℕ) (k : ℕ) → HasNoFeed xs → (slice_index xs k == 10) ≡ false
-byte_single [] k h = refl
-byte_single (x ∷ xs) zero h = grind (arith, tests)
-byte_single (x ∷ xs) (suc k) h = byte_single xs k (grind (arith, tests))
-
-hex_single : (k : ℕ) → (slice_index lower_digits k == 10) ≡ false
-hex_single k = byte_single lower_digits k refl
-
 escaped_single : (q b : ℕ) → (q == 10) ≡ false → HasNoFeed (escaped_byte q b)
-escaped_single q b h = grind (arith, tests, hex_single (b / 16), hex_single (b % 16))
+escaped_single q b h = grind (arith, tests, hex_digit_is_no_line_end (b / 16), hex_digit_is_no_line_end (b % 16))
 
 all_escaped_single : (q : ℕ) (bytes : List ℕ) → (q == 10) ≡ false → HasNoFeed (flat_map (escaped_byte q) bytes)
 all_escaped_single q [] h = refl
 all_escaped_single q (b ∷ bytes) h = both (escaped_byte q b) (flat_map (escaped_byte q) bytes) (escaped_single q b h) (all_escaped_single q bytes h)
 
-quote_by : (double : Bool) → (cond double 34 39 == 10) ≡ false
-quote_by true = refl
-quote_by false = refl
-
-quote_single : (bytes : List ℕ) → (quote_of bytes == 10) ≡ false
-quote_single bytes = quote_by (list_any (λ b. b == 39) bytes && not (list_any (λ b. b == 34) bytes))
-
 quoted_single : (bytes : List ℕ) → HasNoFeed (quoted_text bytes)
 quoted_single bytes =
     let q = quote_of bytes in
-    let one : (q == 10) ≡ false = quote_single bytes in
+    let one : (q == 10) ≡ false = quote_of_is_no_line_end bytes in
     both (q ∷ flat_map (escaped_byte q) bytes) (q ∷ [])
     (ap (λ b. b || list_any (λ c. c == 10) (flat_map (escaped_byte q) bytes)) one ∙ all_escaped_single q bytes one)
     (ap (λ b. b || false) one)

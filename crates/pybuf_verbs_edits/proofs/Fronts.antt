@@ -1,9 +1,12 @@
 -- Which slices pick the first places of a sequence, and what is left without these places.
-use Rattle.std.proofs.Common.{◌≡◌, ◌⊎◌, ℕ, zero, suc, ◌+◌, ◌-◌, ◌<◌, ◌≤◌, List, [], ◌∷◌, ◌++◌, length, drop, true, false, Bool, sym, subst, ap, ◌∙◌, refl, inl, inr, arith, eq-eqb}
-use Rattle.std.specs.Prelude.{◌==◌, reverse, All, if◌then◌else◌}
+use Rattle.std.proofs.Common.{◌≡◌, ◌⊎◌, ℕ, zero, suc, ◌+◌, ◌-◌, ◌<◌, ◌≤◌, List, [], ◌∷◌, length, drop, true, false, Bool, sym, subst, ap, ◌∙◌, refl, inl, inr, arith, eq-eqb}
+use Rattle.std.specs.Prelude.{◌==◌, All, if◌then◌else◌}
 use Rattle.std.proofs.lemmas.Bool.{cases_lt, eqb-true}
-use Rattle.std.proofs.lemmas.List.{length-reverse, reverse-append}
+use Rattle.std.proofs.lemmas.List.{length-reverse}
 use Rattle.std.proofs.lemmas.List.Elements.{All-head, All-tail}
+use Rattle.pybuf_lemmas.proofs.Booleans.{false_if_never_true}
+use Rattle.pybuf_index.specs.Facts.{length_rising, run_length}
+use Rattle.pybuf_slice.specs.Facts.{has_reverse}
 use Rattle.pybuf_index.specs.Runs.{rising, run_of}
 use Rattle.pybuf_slice.specs.Edits.{has, off_from, elements_off}
 use Rattle.pybuf_verbs_edits.specs.Counting.{AreFirst}
@@ -64,33 +67,7 @@ first_or_further x s (suc k) q on =
       | inr later ↦ inr (none_below (x + s) s k q later)
     ]
 
-length_rising : (x s k : ℕ) → length (rising x s k) ≡ k
-length_rising x s zero = refl
-length_rising x s (suc k) = ap suc (length_rising (x + s) s k)
-
 -- ---- lists that have the same numbers
-
-either_way : (b c : Bool) → (if c then true else if b then true else false) ≡ (if b then true else c)
-either_way true true = refl
-either_way true false = refl
-either_way false true = refl
-either_way false false = refl
-
-has_append : (xs ys : List ℕ) (q : ℕ) → has (xs ++ ys) q ≡ (if has xs q then true else has ys q)
-has_append [] ys q = refl
-has_append (x ∷ xs) ys q = append_if (x == q) xs ys q (has_append xs ys q)
-  where
-    append_if : (b : Bool) (xs ys : List ℕ) (q : ℕ) → has (xs ++ ys) q ≡ (if has xs q then true else has ys q) → (if b then true else has (xs ++ ys) q) ≡ (if (if b then true else has xs q) then true else has ys q)
-    append_if true xs ys q same = refl
-    append_if false xs ys q same = same
-
-has_reverse : (xs : List ℕ) (q : ℕ) → has (reverse xs) q ≡ has xs q
-has_reverse [] q = refl
-has_reverse (x ∷ xs) q =
-    ap (λ (us : List ℕ). has us q) (reverse-append (x ∷ []) xs)
-    ∙ has_append (reverse xs) (x ∷ []) q
-    ∙ ap (λ (b : Bool). if b then true else has (x ∷ []) q) (has_reverse xs q)
-    ∙ either_way (x == q) (has xs q)
 
 -- A list of the first n places has these places and no others.
 first_have : (n : ℕ) (xs : List ℕ) (q : ℕ) → AreFirst n xs → has xs q ≡ has (rising 0 1 n) q
@@ -104,10 +81,6 @@ first_count n xs (inr down) = ap length down ∙ length-reverse (rising 0 1 n) �
 run_have : (falls : Bool) (x s k q : ℕ) → has (run_of falls x s k) q ≡ has (rising x s k) q
 run_have true x s k q = has_reverse (rising x s k) q
 run_have false x s k q = refl
-
-pub run_length : (falls : Bool) (x s k : ℕ) → length (run_of falls x s k) ≡ k
-run_length true x s k = length-reverse (rising x s k) ∙ length_rising x s k
-run_length false x s k = length_rising x s k
 
 -- ---- which runs are the first places
 
@@ -147,10 +120,6 @@ zero_is_first p none = inl (ap (λ (q : ℕ). q ∷ []) none)
 
 -- ---- what is left without the first places
 
-not_both : (b : Bool) → (b ≡ true → ⊥) → b ≡ false
-not_both true never = absurd (never refl)
-not_both false never = refl
-
 kept_if : {X : Type 0} (b : Bool) (place : ℕ) (x : X) (items : List X) (xs : List ℕ) → has xs place ≡ b → off_from place (x ∷ items) xs ≡ (if b then off_from (suc place) items xs else x ∷ off_from (suc place) items xs)
 kept_if b place x items xs is = ap (λ (b : Bool). if b then off_from (suc place) items xs else x ∷ off_from (suc place) items xs) is
 
@@ -182,7 +151,7 @@ pub without_first : {X : Type 0} (n : ℕ) (items : List X) (xs : List ℕ) → 
 without_first n items xs first =
     off_below 0 n items xs
     (λ q under. first_have n xs q first ∙ all_between 0 n q (omega arith) (omega (arith, under)))
-    (λ q past. first_have n xs q first ∙ not_both (has (rising 0 1 n) q) (λ on. omega (arith, past, none_past 0 n q on)))
+    (λ q past. first_have n xs q first ∙ false_if_never_true (has (rising 0 1 n) q) (λ on. omega (arith, past, none_past 0 n q on)))
     ∙ ap (λ (k : ℕ). drop k items) (let whole : n - 0 ≡ n = omega arith in whole)
 
 -- If all places lie inside, there are at most as many as the length.

@@ -1,8 +1,9 @@
 -- What is lent for a handle of a value.
-use Rattle.std.proofs.Common.{◌≡◌, ℕ, zero, suc, ◌<◌, List, [], ◌∷◌, ◌++◌, Bool, true, false, ap, sym, ◌∙◌, refl, subst, arith, eq-eqb}
-use Rattle.std.specs.Prelude.{◌==◌, nat_lt, count_by, slice_get, Option, Some, None, Result, Ok, Err, if◌then◌else◌}
+use Rattle.std.proofs.Common.{◌≡◌, ℕ, zero, suc, ◌<◌, List, [], ◌∷◌, ◌++◌, Bool, true, false, ap, sym, ◌∙◌, refl, subst, arith}
+use Rattle.std.specs.Prelude.{nat_lt, count_by, slice_get, Option, Some, None, Result, Ok, Err, if◌then◌else◌}
 use Rattle.std.specs.Option.{ok_or, option_map}
 use Rattle.std.proofs.lemmas.List.Sums.{sum_by-cons}
+use Rattle.pybuf_lemmas.proofs.Numbers.{number_equals_itself}
 use Rattle.pybuf_value.specs.declared.faults.Fault.{Fault}
 use Rattle.pybuf_value.specs.declared.faults.Fault.TheVariants as fault
 use Rattle.pybuf_value.specs.declared.snaps.Snap.{Snap}
@@ -120,10 +121,6 @@ view_adds e k l found effect = adds e k (slice_get e.views k) l refl found effec
 
 -- ---- something of another exporter
 
-pub other_snap : (e : Exporter) (o : Option Snap) → snap_in e (option_map loan.Other o) ≡ o
-other_snap e None = refl
-other_snap e (Some snap) = refl
-
 pub other_extends : (e : Exporter) (o : Option Snap) → extended_as e (option_map loan.Other o) ≡ extended_by e o
 other_extends e None = refl
 other_extends e (Some snap) = refl
@@ -138,22 +135,19 @@ other_adds e (Some snap) = refl
 abbrev alone : ℕ → Option Subject → Option Snap → List Lent
 alone h s o = lent_as h s o ++ []
 
-same_handle : (h : ℕ) → (h == h) ≡ true
-same_handle h = eq-eqb h h refl
-
 abbrev some_if : Bool → Snap → Option Snap
 some_if b snap = if b then Some snap else None
 
 found_alone : (h : ℕ) (s : Option Subject) (o : Option Snap) → snap_of (snaps_of (alone h s o)) h ≡ o
 found_alone h s None = refl
-found_alone h s (Some snap) = ap (λ (b : Bool). some_if b snap) (same_handle h)
+found_alone h s (Some snap) = ap (λ (b : Bool). some_if b snap) (number_equals_itself h)
 
 other_named : (h : ℕ) (s : Option Subject) (o : Option Snap) → is_own s ≡ false → names_own (alone h s o) h ≡ false
 other_named h s None other = refl
-other_named h s (Some snap) other = ap (λ (b : Bool). if b then is_own s else false) (same_handle h) ∙ other
+other_named h s (Some snap) other = ap (λ (b : Bool). if b then is_own s else false) (number_equals_itself h) ∙ other
 
 own_named : (h : ℕ) (snap : Snap) → names_own (alone h (Some subject.Own) (Some snap)) h ≡ true
-own_named h snap = ap (λ (b : Bool). if b then true else false) (same_handle h)
+own_named h snap = ap (λ (b : Bool). if b then true else false) (number_equals_itself h)
 
 -- `extend`
 abbrev extended_if : Exporter → Bool → Option Snap → Effect

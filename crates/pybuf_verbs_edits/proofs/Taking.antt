@@ -1,9 +1,7 @@
 -- The checks of its effect tell what an edit takes out at the front.
-use Rattle.std.proofs.Common.{◌≡◌, ◌≢◌, inl, inr, ℕ, zero, suc, ◌+◌, ◌-◌, ◌/◌, min, ◌<◌, ◌≤◌, ℤ, pos, negsuc, List, [], ◌∷◌, length, take, drop, true, false, Bool, sym, subst, ap, ◌∙◌, refl, arith, length-take, length-drop, length-append}
+use Rattle.std.proofs.Common.{◌≡◌, ◌≢◌, ℕ, zero, suc, ◌+◌, ◌-◌, min, ◌<◌, ◌≤◌, ℤ, pos, negsuc, List, [], ◌∷◌, length, take, drop, true, false, Bool, sym, subst, ap, ◌∙◌, refl, arith, length-take, length-drop, length-append}
 use Rattle.std.specs.Prelude.{nat_abs, Result, Ok, Err}
-use Rattle.std.proofs.lemmas.Bool.{cases_lt}
-use Rattle.std.proofs.lemmas.Bool.Decides.{nat_tests}
-use Rattle.std.proofs.Math.Nat.{div-one}
+use Rattle.pybuf_index.specs.Facts.{how_many_one, run_length}
 use Rattle.pybuf_value.specs.declared.faults.Fault.{Fault}
 use Rattle.pybuf_value.specs.declared.values.PySlice.{PySlice}
 use Rattle.pybuf_value.specs.Refusing.{◌>>=◌}
@@ -19,7 +17,7 @@ use Rattle.pybuf_state.specs.Resizing.{resizable}
 use Rattle.pybuf_verbs_edits.specs.Common.{with_bytes}
 use Rattle.pybuf_verbs_edits.specs.Shrinking.{slice_deleted}
 use Rattle.pybuf_verbs_edits.specs.Counting.{AreFirst, TakesFirst}
-use Rattle.pybuf_verbs_edits.proofs.Fronts.{first_alone, first_low, first_stride, run_is_first, run_length, without_first}
+use Rattle.pybuf_verbs_edits.proofs.Fronts.{first_alone, first_low, first_stride, run_is_first, without_first}
 
 -- ---- one byte
 
@@ -81,19 +79,6 @@ shorter bytes start end ordered inside =
     ∙ ap (λ (k : ℕ). start + k) (length-drop end bytes)
 
 -- ---- spans whose indices are the first places
-
-how_many_none : (low high stride : ℕ) → high ≤ low → how_many low high stride ≡ 0
-how_many_none low high stride h = grind (arith, nat_tests)
-
-how_many_some : (low high stride : ℕ) → low < high → how_many low high stride ≡ (high - low - 1) / stride + 1
-how_many_some low high stride h = grind (arith, nat_tests)
-
-how_many_one : (low high : ℕ) → how_many low high 1 ≡ high - low
-how_many_one low high =
-    elim (cases_lt low high) [
-      | inl under ↦ rw (how_many_some low high 1 under, div-one (high - low - 1)) (omega arith)
-      | inr over ↦ rw (how_many_none low high 1 over) (omega arith)
-    ]
 
 run_least : (falls : Bool) (low high k : ℕ) → k ≡ high - low → 0 < k → run_low falls low high 1 k ≡ low
 run_least false low high k counted some = refl

@@ -2,7 +2,7 @@
 use Rattle.std.proofs.Common.{◌≡◌, ℕ, ◌+◌, List, [], ◌∷◌, ◌++◌, Bool, true, false, true≢false, sym, refl, ◌∙◌, ap, arith}
 use Rattle.std.specs.Prelude.{Option, Some, None, Result, Ok, Err, not, nat_lt, slice_get, length}
 use Rattle.std.proofs.lemmas.List.{length-append}
-use Rattle.std.specs.Option.{ok_or}
+use Rattle.pybuf_state.specs.Facts.{iterator_given}
 use Rattle.pybuf_value.specs.declared.faults.Fault.{Fault}
 use Rattle.pybuf_value.specs.declared.faults.Fault.TheVariants as fault
 use Rattle.pybuf_value.specs.declared.values.Item.{Item}
@@ -49,10 +49,6 @@ at_place it place goes = record { subject = refl; exhausted = λ is. absurd (tru
 at_end : (it : Iterator) → it.exhausted ≡ false → IsSameOrMoved it (record it { exhausted = true })
 at_end it goes = record { subject = refl; exhausted = λ is. absurd (true≢false (sym is ∙ goes)) }
 
-given_of : (o : Option Iterator) (it : Iterator) → ok_or o fault.UnknownName ≡ Ok it → o ≡ Some it
-given_of None it found = cc
-given_of (Some other) it found = cc
-
 -- ---- `next`
 
 moved_on_so : MovedIteratorsStay → (e : Exporter) (k : ℕ) (it : Iterator) (x : Option Item) → slice_get e.iterators k ≡ Some it → it.exhausted ≡ false → IsIterated e (moved_on e k it x)
@@ -89,9 +85,9 @@ iter_safe new = (
 
 pub iterators_safe : MovedIteratorsStay → IteratorsAreSafe
 iterators_safe stays e k verb.Iter = bind e (iterator_at e k) _ (λ it _. read e reply.Itself refl)
-iterators_safe stays e k verb.Next = bind e (iterator_at e k) _ (λ it found. next_by stays e k it it.exhausted refl (given_of (slice_get e.iterators k) it found))
+iterators_safe stays e k verb.Next = bind e (iterator_at e k) _ (λ it found. next_by stays e k it it.exhausted refl (iterator_given (slice_get e.iterators k) it found))
 iterators_safe stays e k verb.LengthHint = bind e (iterator_over_bytes e k) _ (λ it _. read e _ refl)
 iterators_safe stays e k (verb.SetState state) =
     bind e (iterator_over_bytes e k) _ (λ it found.
-    put_by stays e k it state it.exhausted refl (given_of (slice_get e.iterators k) it (over_bytes_of (iterator_at e k) it found)))
+    put_by stays e k it state it.exhausted refl (iterator_given (slice_get e.iterators k) it (over_bytes_of (iterator_at e k) it found)))
 iterators_safe stays e k v = tt

@@ -1,10 +1,11 @@
 -- Items that are read from bytes, in which they lie one after the other.
-use Rattle.std.proofs.Common.{◌≡◌, ℕ, zero, suc, ◌+◌, ◌*◌, ◌-◌, ◌<◌, ◌≤◌, List, [], ◌∷◌, ◌++◌, length, map, take, drop, ap, ap₂, sym, ◌∙◌, refl, subst, arith, suc-add, append_assoc}
+use Rattle.std.proofs.Common.{◌≡◌, ℕ, zero, suc, ◌+◌, ◌*◌, ◌-◌, ◌<◌, ◌≤◌, List, [], ◌∷◌, ◌++◌, length, map, take, drop, ap, ap₂, sym, ◌∙◌, subst, arith, suc-add, append_assoc}
 use Rattle.std.specs.Prelude.{All, ◌/◌, ◌%◌}
 use Rattle.std.proofs.lemmas.Grind.{common_steps}
 use Rattle.std.proofs.lemmas.List.{length-append, length-take-le, length-drop, take-append-le, drop-append-le}
 use Rattle.std.proofs.lemmas.List.Elements.{All-head, All-tail}
 use Rattle.std.proofs.Math.Nat.{zero-div, div_self, mul-mod_left, add-mul-div_right, mod-add-div'}
+use Rattle.pybuf_lemmas.proofs.Lists.{empty_if_no_length}
 use Rattle.pybuf_value.specs.declared.values.Item.{Item}
 use Rattle.pybuf_desc.specs.Layouts.{Layout, LiesInside}
 use Rattle.pybuf_desc.specs.Items.{bytes_at, bytes_of_items, content_of_layout}
@@ -16,17 +17,13 @@ use Rattle.pybuf_verbs_reads.specs.ItemRuns.{items_in, items_of_run}
 
 -- ---- bytes that follow one another
 
-no_bytes : (bytes : List ℕ) → length bytes ≡ 0 → bytes ≡ []
-no_bytes [] none = refl
-no_bytes (b ∷ bytes) none = absurd (omega (arith, none))
-
 one_more : (size n len : ℕ) → len ≡ suc n * size → (size ≤ len) × (len - size ≡ n * size)
 one_more size n len long = let e : suc n * size ≡ size + n * size = grind arith in (omega (arith, e, long), omega (arith, e, long))
 
 in_both : (reader : ItemReader) (size : ℕ) (a b : List ℕ) (n m : ℕ) → length a ≡ n * size → items_in reader size (a ++ b) (n + m) ≡ items_in reader size a n ++ items_in reader size b m
 in_both reader size a b zero m long =
     let none : length a ≡ 0 = omega (arith, long) in
-    ap (items_in reader size (a ++ b)) (let same : 0 + m ≡ m = omega arith in same) ∙ ap (λ (xs : List ℕ). items_in reader size (xs ++ b) m) (no_bytes a none)
+    ap (items_in reader size (a ++ b)) (let same : 0 + m ≡ m = omega arith in same) ∙ ap (λ (xs : List ℕ). items_in reader size (xs ++ b) m) (empty_if_no_length a none)
 in_both reader size a b (suc n) m long =
     let more = one_more size n (length a) long in
     let rest : length (drop size a) ≡ n * size = length-drop size a ∙ more.1 in

@@ -1,6 +1,7 @@
 -- The entries of a shape, read one after the other.
 use Rattle.std.proofs.Common.{◌≡◌, ℕ, suc, ◌+◌, ◌*◌, ◌<◌, ◌≤◌, List, [], ◌∷◌, ◌++◌, length, get_or, drop, drop-cons, ap, ap₂, sym, ◌∙◌, refl, arith, append_assoc, append-nil, drop_of_length-le}
 use Rattle.std.specs.Prelude.{Result, Ok, Err}
+use Rattle.pybuf_desc.specs.Facts.{product-push}
 use Rattle.pybuf_value.specs.declared.faults.Fault.{Fault}
 use Rattle.pybuf_value.specs.declared.values.Scalar.{Scalar}
 use Rattle.pybuf_value.specs.Refusing.{◌>>=◌}
@@ -38,11 +39,7 @@ pub entries_done : (wanted : Result (List ℕ) Fault) (made : List ℕ) (size i 
 entries_done wanted made size i parts past so_far =
     so_far ∙ ap (λ (ps : List Scalar). joined made (entries_of size ps)) (drop_of_length-le parts past) ∙ ap (λ (xs : List ℕ). Ok xs) (append-nil made)
 
-product_end : (xs : List ℕ) (x : ℕ) → product (xs ++ x ∷ []) ≡ product xs * x
-product_end [] x = omega arith
-product_end (y ∷ xs) x = ap (λ (n : ℕ). y * n) (product_end xs x) ∙ (let e : y * (product xs * x) ≡ y * product xs * x = omega arith in e)
-
 pub product_next : (made more : List ℕ) (first size entry : ℕ) → size ≡ first * product made → more ≡ made ++ entry ∷ [] → size * entry ≡ first * product more
 product_next made more first size entry so_far pushed =
     ap (λ (n : ℕ). n * entry) so_far ∙ (let e : first * product made * entry ≡ first * (product made * entry) = omega arith in e)
-    ∙ ap (λ (n : ℕ). first * n) (sym (product_end made entry)) ∙ ap (λ (xs : List ℕ). first * product xs) (sym pushed)
+    ∙ ap (λ (n : ℕ). first * n) (sym (product-push made entry)) ∙ ap (λ (xs : List ℕ). first * product xs) (sym pushed)

@@ -12,17 +12,18 @@ use Rattle.pybuf_state.specs.Spaced.{IsSpaced}
 use Rattle.pybuf_command.specs.declared.kinds.Subject.TheVariants as subject
 use Rattle.pybuf_command.specs.Kinds.{holds_readonly}
 use Rattle.pybuf_state.specs.Keeps.{IsCarriedOut, IsSafe, IsCopied}
-use Rattle.std.specs.Prelude.{◌==◌, ◌%◌, ◌&&◌, ◌||◌, not, nat_lt, nat_le, min, Option, Some, None, ok_or, if◌then◌else◌, ℤ, pos, negsuc, Result, Ok, Err}
-use Rattle.std.proofs.lemmas.Int.{ints}
+use Rattle.std.specs.Prelude.{◌==◌, ◌%◌, ◌&&◌, ◌||◌, not, nat_lt, nat_le, Option, Some, None, ok_or, if◌then◌else◌, ℤ, pos, negsuc, Result, Ok, Err}
 use Rattle.std.proofs.lemmas.List.{length-append}
 use Rattle.std.proofs.lemmas.Bool.{eq-eqb, eqb-true}
-use Rattle.pybuf_value.specs.declared.values.PySlice.{PySlice}
+use Rattle.pybuf_lemmas.proofs.Booleans.{true_if_not_false, second_of_neither}
+use Rattle.pybuf_state.specs.Facts.{safe_bind}
+use Rattle.pybuf_value.specs.Facts.{passed_unless, done_holds}
+use Rattle.pybuf_index.specs.Facts.{slice_moves}
 use Rattle.pybuf_value.specs.declared.values.Scalar.{Scalar}
-use Rattle.pybuf_value.specs.declared.values.Scalar.TheVariants as scalar
 use Rattle.pybuf_value.specs.declared.values.Value.{Value}
 use Rattle.pybuf_value.specs.declared.values.Value.TheVariants as value
-use Rattle.pybuf_value.specs.Numbers.{number_in, number_of}
-use Rattle.pybuf_index.specs.Parts.{SliceParts, nonzero, step_in, part_in, nearest_word, parts_of, saturated_parts_of}
+use Rattle.pybuf_value.specs.Numbers.{number_of}
+use Rattle.pybuf_index.specs.Parts.{SliceParts, saturated_parts_of}
 use Rattle.pybuf_struct.specs.declared.table.Endianness.TheVariants as order
 use Rattle.pybuf_struct.specs.declared.table.FormatType.{FormatType}
 use Rattle.pybuf_struct.specs.declared.table.FormatType.TheVariants as code
@@ -47,9 +48,6 @@ use Rattle.pybuf_value.specs.Texts.{text_in}
 use Rattle.pybuf_verbs_views.specs.Cast.{code_for, size_for, entries_of, flat_layout_of, cast_in, shaped_layout_of, layout_in_shape, cast_of_view, column_layout_in, column_cast_of_view}
 use Rattle.pybuf_verbs_views.specs.Laws.{ViewIsSafe, RangeIsSafe, SliceIsSafe, CastIsSafe, ColumnCastIsSafe, HoldsTheBytes, ColumnCastsHoldTheBytes, CastsAreOfBytes, ReleaseIsSafe, EnterIsSafe, ContiguousIsCopied, ToReadonlyIsSafe}
 
-bind : {A : Type 0} (e : Exporter) (r : Result A Fault) (f : A → Result (Exporter × LocalReply) Fault) → ((a : A) → r ≡ Ok a → IsSafe e (f a)) → IsSafe e (r >>= f)
-bind e r f after = done_bind (IsCarriedOut e) r f after
-
 last_is_there : (views : List View) (v : View) → nat_lt (length views) (length (views ++ v ∷ [])) ≡ true
 last_is_there views v = let more : length (views ++ v ∷ []) ≡ length views + 1 = length-append views (v ∷ []) in grind (arith, more)
 
@@ -64,61 +62,19 @@ new_view adding e layout made apart = record {
 pub view_safe : NewViewsKeep → WholeLayoutsAreSound → WholeLayoutsLieApart → LiveLayoutsAreSound → LiveLayoutsLieApart → ViewIsSafe
 view_safe adding whole bytes_apart live apart = (
   (λ e. new_view adding e (whole_layout e) (λ sound. whole e) (λ spaced. bytes_apart.0 (length e.bytes) (holds_readonly e.kind))),
-  (λ e k. bind e (live_layout e k) _ (λ layout found. new_view adding e layout (λ sound. live e k layout sound found) (λ spaced. apart e k layout spaced found))),
+  (λ e k. safe_bind e (live_layout e k) _ (λ layout found. new_view adding e layout (λ sound. live e k layout sound found) (λ spaced. apart e k layout spaced found))),
 )
 
 -- ---- slices
-
-passed : (b : Bool) (f : Fault) (u : Bool) → unless b f ≡ Ok u → b ≡ false
-passed true f u is = absurd (cc)
-passed false f u is = refl
 
 shape_of : (shape : List ℕ) → (length shape == 0) ≡ false → (n : ℕ) × (rest : List ℕ) × (shape ≡ n ∷ rest)
 shape_of [] some = absurd (true≢false some)
 shape_of (n ∷ rest) some = (n, rest, refl)
 
--- The step of a slice isn't 0.
-nonzero_moves : (z : ℤ) → IfDone (λ (step : ℤ). step ≢ pos 0) (nonzero z)
-nonzero_moves (pos zero) = tt
-nonzero_moves (pos (suc n)) = λ e. omega (arith, ints, e)
-nonzero_moves (negsuc n) = λ e. omega (arith, ints, e)
-
-number_moves : (r : Result ℤ Fault) → IfDone (λ (step : ℤ). step ≢ pos 0) (r >>= nonzero)
-number_moves (Ok z) = nonzero_moves z
-number_moves (Err f) = tt
-
-step_moves : (s : Scalar) → IfDone (λ (step : ℤ). step ≢ pos 0) (step_in s)
-step_moves scalar.None = λ e. omega (arith, ints, e)
-step_moves (scalar.Bool truth) = number_moves (number_in (scalar.Bool truth))
-step_moves (scalar.Int n) = nonzero_moves n
-step_moves (scalar.Text t) = tt
-step_moves (scalar.Bytes b) = tt
-step_moves scalar.Ellipsis = tt
-step_moves (scalar.Handle h) = tt
-
-clamped_moves : (z : ℤ) → z ≢ pos 0 → nearest_word z ≢ pos 0
-clamped_moves (pos zero) h e = h refl
-clamped_moves (pos (suc n)) h e = let z : min (suc n) 9223372036854775807 ≡ 0 = cc in omega arith
-clamped_moves (negsuc n) h e = cc
-
-done : {B : Type 0} (P : B → Type 0) (r : Result B Fault) (x : B) → IfDone P r → r ≡ Ok x → P x
-done P (Ok y) x holds is = let same : y ≡ x = cc in subst P same holds
-done P (Err f) x holds is = absurd (cc)
-
-slice_moves : (slice : PySlice) → IfDone (λ (parts : SliceParts). parts.step ≢ pos 0) (saturated_parts_of slice)
-slice_moves slice =
-    let P : SliceParts → Type 0 = λ parts. parts.step ≢ pos 0 in
-    done_bind P (parts_of slice) _ (λ parts found.
-    clamped_moves parts.step (done P (parts_of slice) parts
-    (done_bind P (step_in slice.step) _ (λ step at.
-    done_bind P (part_in slice.start) _ (λ start _.
-    done_bind P (part_in slice.stop) _ (λ stop _.
-    done (λ (z : ℤ). z ≢ pos 0) (step_in slice.step) step (step_moves slice.step) at)))) found))
-
 sliced : SlicesStayInside → SlicesHaveTheirShape → (e : Exporter) (layout : Layout) (parts : SliceParts) (u : Bool) → has_dimensions layout ≡ Ok u → parts.step ≢ pos 0
     → IsSoundLayout e layout → IsSoundLayout e (slice_of layout parts)
 sliced inside shapes e layout parts u some moves sound =
-    let shape = shape_of layout.shape (passed (length layout.shape == 0) fault.Kind u some) in
+    let shape = shape_of layout.shape (passed_unless (length layout.shape == 0) fault.Kind u some) in
     record {
       formed = record { sized = sound.formed.sized; counted = shapes layout shape.0 shape.1 parts shape.2 sound.formed.counted moves };
       inside = inside layout parts (length e.bytes) sound.inside;
@@ -136,22 +92,14 @@ pub record SliceLaws : Type 0 where
 
 pub slice_safe : SliceLaws → SliceIsSafe
 slice_safe laws e k slice =
-    bind e (live_layout e k) _ (λ layout found.
-    bind e (has_dimensions layout) _ (λ u some.
-    bind e (saturated_parts_of slice) _ (λ parts given.
-    let moves : parts.step ≢ pos 0 = done (λ (p : SliceParts). p.step ≢ pos 0) (saturated_parts_of slice) parts (slice_moves slice) given in
+    safe_bind e (live_layout e k) _ (λ layout found.
+    safe_bind e (has_dimensions layout) _ (λ u some.
+    safe_bind e (saturated_parts_of slice) _ (λ parts given.
+    let moves : parts.step ≢ pos 0 = done_holds (λ (p : SliceParts). p.step ≢ pos 0) (saturated_parts_of slice) parts (slice_moves slice) given in
     new_view laws.adding e (slice_of layout parts) (λ sound. sliced laws.inside laws.shapes e layout parts u some moves (laws.live e k layout sound found))
     (λ spaced. laws.apart layout parts moves (laws.live_apart e k layout spaced found)))))
 
 -- ---- casts
-
-positive : (n : ℕ) → (n == 0) ≡ false → 0 < n
-positive zero is = absurd (true≢false is)
-positive (suc n) is = omega arith
-
-not_false : (b : Bool) → not b ≡ false → b ≡ true
-not_false true is = refl
-not_false false is = absurd (true≢false is)
 
 size_told : (r : Result Format Fault) (size : ℕ) → (r >>= λ f. Ok f.size) ≡ Ok size → 0 < size → is_size_of size r ≡ true
 size_told (Ok f) size is some =
@@ -221,17 +169,13 @@ flat_sound laws e layout text flat =
 
 -- The cast has as many bytes as the items of the view.
 bytes_told : (n m : ℕ) (b : Bool) → unless (not (n == m)) fault.Kind ≡ Ok b → n ≡ m
-bytes_told n m b is = eqb-true n m (not_false (n == m) (passed (not (n == m)) fault.Kind b is))
-
-second_false : (a b : Bool) → a || b ≡ false → b ≡ false
-second_false true b is = absurd (true≢false is)
-second_false false b is = is
+bytes_told n m b is = eqb-true n m (true_if_not_false (n == m) (passed_unless (not (n == m)) fault.Kind b is))
 
 -- No dimension lacks an entry.
 some_items : (shape : List ℕ) → has_zero_entry shape ≡ false → 0 < product shape
 some_items [] is = omega arith
 some_items (zero ∷ shape) is = absurd (true≢false is)
-some_items (suc n ∷ shape) is = let rest = some_items shape (second_false (suc n == 0) (has_zero_entry shape) is) in grind (arith, rest)
+some_items (suc n ∷ shape) is = let rest = some_items shape (second_of_neither (suc n == 0) (has_zero_entry shape) is) in grind (arith, rest)
 
 in_sound : CastLaws → (e : Exporter) (columns : Bool) (layout : Layout) (text : List ℕ) (size : ℕ) (entries : List ℕ) → is_contiguous_layout layout ≡ true → (size_by text ≡ Ok size) × (0 < size)
     → 0 < length layout.starts → length layout.starts * layout.itemsize ≡ product entries * size → IsSoundLayout e layout → IsSoundLayout e (cast_in columns layout text size entries)
@@ -261,7 +205,7 @@ shaped_sound laws e columns layout text parts flat =
     (λ sound.
     let bytes : length layout.starts * layout.itemsize ≡ product entries * size =
     ap (λ (n : ℕ). n * layout.itemsize) sound.formed.counted ∙ mul_comm (product layout.shape) layout.itemsize ∙ sym counted ∙ mul_comm size (product entries) in
-    let some : 0 < length layout.starts = subst (λ (n : ℕ). 0 < n) (sym sound.formed.counted) (some_items layout.shape (passed (has_zero_entry layout.shape) fault.Kind none no_zero)) in
+    let some : 0 < length layout.starts = subst (λ (n : ℕ). 0 < n) (sym sound.formed.counted) (some_items layout.shape (passed_unless (has_zero_entry layout.shape) fault.Kind none no_zero)) in
     in_sound laws e columns layout text size entries flat sized some bytes sound)))))))
 
 in_shape_sound : CastLaws → (e : Exporter) (layout : Layout) (text : List ℕ) (shape : Option Value) → is_contiguous_layout layout ≡ true
@@ -302,15 +246,15 @@ in_shape_apart apart column_apart layout text (Some (value.Slices s)) = tt
 
 pub cast_safe : CastLaws → CastIsSafe
 cast_safe laws e k format shape =
-    bind e (live_layout e k) _ (λ layout found.
-    bind e (unless (not (is_contiguous_layout layout)) fault.Kind) _ (λ b is_flat.
-    bind e (text_in format) _ (λ text _.
-    bind e (layout_in_shape layout text shape) _ (λ made given.
+    safe_bind e (live_layout e k) _ (λ layout found.
+    safe_bind e (unless (not (is_contiguous_layout layout)) fault.Kind) _ (λ b is_flat.
+    safe_bind e (text_in format) _ (λ text _.
+    safe_bind e (layout_in_shape layout text shape) _ (λ made given.
     new_view laws.adding e made (λ sound.
-    let flat = not_false (is_contiguous_layout layout) (passed (not (is_contiguous_layout layout)) fault.Kind b is_flat) in
+    let flat = true_if_not_false (is_contiguous_layout layout) (passed_unless (not (is_contiguous_layout layout)) fault.Kind b is_flat) in
     let P : Layout → Type 0 = λ l. IsSoundLayout e layout → IsSoundLayout e l in
-    done P (layout_in_shape layout text shape) made (in_shape_sound laws e layout text shape flat) given (laws.live e k layout sound found))
-    (λ spaced. done HasItemsApart (layout_in_shape layout text shape) made (in_shape_apart laws.apart laws.column_apart layout text shape) given)))))
+    done_holds P (layout_in_shape layout text shape) made (in_shape_sound laws e layout text shape flat) given (laws.live e k layout sound found))
+    (λ spaced. done_holds HasItemsApart (layout_in_shape layout text shape) made (in_shape_apart laws.apart laws.column_apart layout text shape) given)))))
 
 columns_sound : CastLaws → (e : Exporter) (layout : Layout) (text : List ℕ) (shape : Value) → is_contiguous_layout layout ≡ true
     → IfDone (λ (l : Layout). IsSoundLayout e layout → IsSoundLayout e l) (column_layout_in layout text shape)
@@ -329,15 +273,15 @@ columns_apart apart column_apart layout text (value.Slices s) = tt
 
 pub column_cast_safe : CastLaws → ColumnCastIsSafe
 column_cast_safe laws e k format shape =
-    bind e (live_layout e k) _ (λ layout found.
-    bind e (unless (not (is_contiguous_layout layout)) fault.Kind) _ (λ b is_flat.
-    bind e (text_in format) _ (λ text _.
-    bind e (column_layout_in layout text shape) _ (λ made given.
+    safe_bind e (live_layout e k) _ (λ layout found.
+    safe_bind e (unless (not (is_contiguous_layout layout)) fault.Kind) _ (λ b is_flat.
+    safe_bind e (text_in format) _ (λ text _.
+    safe_bind e (column_layout_in layout text shape) _ (λ made given.
     new_view laws.adding e made (λ sound.
-    let flat = not_false (is_contiguous_layout layout) (passed (not (is_contiguous_layout layout)) fault.Kind b is_flat) in
+    let flat = true_if_not_false (is_contiguous_layout layout) (passed_unless (not (is_contiguous_layout layout)) fault.Kind b is_flat) in
     let P : Layout → Type 0 = λ l. IsSoundLayout e layout → IsSoundLayout e l in
-    done P (column_layout_in layout text shape) made (columns_sound laws e layout text shape flat) given (laws.live e k layout sound found))
-    (λ spaced. done HasItemsApart (column_layout_in layout text shape) made (columns_apart laws.apart laws.column_apart layout text shape) given)))))
+    done_holds P (column_layout_in layout text shape) made (columns_sound laws e layout text shape flat) given (laws.live e k layout sound found))
+    (λ spaced. done_holds HasItemsApart (column_layout_in layout text shape) made (columns_apart laws.apart laws.column_apart layout text shape) given)))))
 
 -- ---- the bytes of a cast in column order
 
@@ -366,7 +310,7 @@ columns_of_shape laws e layout text parts flat =
     (λ sound.
     let bytes : length layout.starts * layout.itemsize ≡ product entries * size =
     ap (λ (n : ℕ). n * layout.itemsize) sound.formed.counted ∙ mul_comm (product layout.shape) layout.itemsize ∙ sym counted ∙ mul_comm size (product entries) in
-    let some : 0 < length layout.starts = subst (λ (n : ℕ). 0 < n) (sym sound.formed.counted) (some_items layout.shape (passed (has_zero_entry layout.shape) fault.Kind none no_zero)) in
+    let some : 0 < length layout.starts = subst (λ (n : ℕ). 0 < n) (sym sound.formed.counted) (some_items layout.shape (passed_unless (has_zero_entry layout.shape) fault.Kind none no_zero)) in
     (laws.contiguous layout text size entries, laws.bytes e.bytes layout text size entries flat sized.1 bytes some))))))))
 
 columns_in : ColumnLaws → (e : Exporter) (layout : Layout) (text : List ℕ) (shape : Value) → is_contiguous_layout layout ≡ true
@@ -384,14 +328,14 @@ columns_made laws e k format shape sound =
     done_bind P (unless (not (is_contiguous_layout layout)) fault.Kind) _ (λ b is_flat.
     done_bind P (text_in format) _ (λ text _.
     done_bind P (column_layout_in layout text shape) _ (λ cast given.
-    let flat = not_false (is_contiguous_layout layout) (passed (not (is_contiguous_layout layout)) fault.Kind b is_flat) in
+    let flat = true_if_not_false (is_contiguous_layout layout) (passed_unless (not (is_contiguous_layout layout)) fault.Kind b is_flat) in
     let Q : Layout → Type 0 = λ l. IsSoundLayout e layout → HasTheBytes e layout l in
-    let held = done Q (column_layout_in layout text shape) cast (columns_in laws e layout text shape flat) given (laws.live e k layout sound found) in
+    let held = done_holds Q (column_layout_in layout text shape) cast (columns_in laws e layout text shape flat) given (laws.live e k layout sound found) in
     record { layout = layout; live = found; cast = cast; answer = refl; in_column_order = held.0; bytes = held.1 }))))
 
 pub column_casts_hold : ColumnLaws → ColumnCastsHoldTheBytes
 column_casts_hold laws e k format shape made sound is =
-    done (λ (m : Exporter × LocalReply). HoldsTheBytes e k m) (column_cast_of_view e k format shape) made (columns_made laws e k format shape sound) is
+    done_holds (λ (m : Exporter × LocalReply). HoldsTheBytes e k m) (column_cast_of_view e k format shape) made (columns_made laws e k format shape sound) is
 
 -- The text is a single native code, and that code or the view's format has single bytes.
 abbrev OfBytes : Layout → List ℕ → Type 0
@@ -413,7 +357,7 @@ code_of_bytes layout (Some d) = mixed_case layout d (not (is_byte_code d) && not
 of_bytes : (layout : Layout) (text : List ℕ) (size : ℕ) → size_for layout text ≡ Ok size → OfBytes layout text
 of_bytes layout text size is =
     let found = of_code layout text size (code_for layout text) refl is in
-    (found.0, code_of_text layout (native_single_code text) found.0 found.1, done (λ (c : FormatType). is_byte_code c || is_byte_format layout.format ≡ true) (code_for layout text) found.0 (code_of_bytes layout (native_single_code text)) found.1)
+    (found.0, code_of_text layout (native_single_code text) found.0 found.1, done_holds (λ (c : FormatType). is_byte_code c || is_byte_format layout.format ≡ true) (code_for layout text) found.0 (code_of_bytes layout (native_single_code text)) found.1)
 
 flat_of_bytes : (layout : Layout) (text : List ℕ) → IfDone (λ (l : Layout). OfBytes layout text) (flat_layout_of layout text)
 flat_of_bytes layout text =
@@ -452,11 +396,11 @@ cast_done e k format shape =
     done_bind P (unless (not (is_contiguous_layout layout)) fault.Kind) _ (λ _ _.
     done_bind P (text_in format) _ (λ text at.
     done_bind P (layout_in_shape layout text shape) _ (λ cast given.
-    let code = done (λ (l : Layout). OfBytes layout text) (layout_in_shape layout text shape) cast (in_shape_of_bytes layout text shape) given in
+    let code = done_holds (λ (l : Layout). OfBytes layout text) (layout_in_shape layout text shape) cast (in_shape_of_bytes layout text shape) given in
     (layout, text, code.0, found, at, code.1, code.2)))))
 
 pub casts_of_bytes : CastsAreOfBytes
-casts_of_bytes e k format shape made is = done (λ (m : Exporter × LocalReply). CastOfBytes e k format) (cast_of_view e k format shape) made (cast_done e k format shape) is
+casts_of_bytes e k format shape made is = done_holds (λ (m : Exporter × LocalReply). CastOfBytes e k format) (cast_of_view e k format shape) made (cast_done e k format shape) is
 
 -- ---- ranges
 
@@ -472,17 +416,17 @@ part_within count (negsuc from) (negsuc to) = tt
 
 pub range_safe : NewViewsKeep → PartLayoutsAreSound → WholeLayoutsLieApart → RangeIsSafe
 range_safe adding part apart e from to =
-    bind e (number_of from) _ (λ first _.
-    bind e (number_of to) _ (λ end _.
-    bind e (part_between (length e.bytes) first end) _ (λ found is.
+    safe_bind e (number_of from) _ (λ first _.
+    safe_bind e (number_of to) _ (λ end _.
+    safe_bind e (part_between (length e.bytes) first end) _ (λ found is.
     new_view adding e (bytes_layout_from found.0 found.1 (holds_readonly e.kind)) (λ sound.
-    part e found.0 found.1 (done (λ (p : ℕ × ℕ). p.0 + p.1 ≤ length e.bytes) (part_between (length e.bytes) first end) found (part_within (length e.bytes) first end) is))
+    part e found.0 found.1 (done_holds (λ (p : ℕ × ℕ). p.0 + p.1 ≤ length e.bytes) (part_between (length e.bytes) first end) found (part_within (length e.bytes) first end) is))
     (λ spaced. apart.1 found.0 found.1 (holds_readonly e.kind)))))
 
 -- ---- the view itself, and its copy
 
 pub enter_safe : ReadingKeeps → EnterIsSafe
-enter_safe reading e k = bind e (live_layout e k) _ (λ layout found. record { keeps = λ sound. reading e sound; answers = refl })
+enter_safe reading e k = safe_bind e (live_layout e k) _ (λ layout found. record { keeps = λ sound. reading e sound; answers = refl })
 
 pub contiguous_copied : ContiguousIsCopied
 contiguous_copied e k =
@@ -499,7 +443,7 @@ read_only e layout sound = record {
 
 pub toreadonly_safe : NewViewsKeep → LiveLayoutsAreSound → LiveLayoutsLieApart → ToReadonlyIsSafe
 toreadonly_safe adding live apart e k =
-    bind e (live_layout e k) _ (λ layout found.
+    safe_bind e (live_layout e k) _ (λ layout found.
     new_view adding e (record layout { readonly = true }) (λ sound. read_only e layout (live e k layout sound found)) (λ spaced. apart e k layout spaced found))
 
 -- ---- releases

@@ -2,6 +2,9 @@
 use Rattle.std.proofs.Common.{◌≡◌, ℕ, length, false, sym, refl, subst}
 use Rattle.std.specs.Prelude.{◌==◌, not, Ok}
 use Rattle.std.proofs.lemmas.Bool.{eqb-true}
+use Rattle.pybuf_lemmas.proofs.Booleans.{true_if_not_false}
+use Rattle.pybuf_state.specs.Facts.{safe_bind}
+use Rattle.pybuf_value.specs.Facts.{done_holds, passed_unless}
 use Rattle.pybuf_value.specs.declared.faults.Fault.TheVariants as fault
 use Rattle.pybuf_value.specs.declared.values.Value.{Value}
 use Rattle.pybuf_value.specs.declared.values.PySlice.{PySlice}
@@ -20,7 +23,7 @@ use Rattle.pybuf_verbs_writes.specs.Laid.{laid}
 use Rattle.pybuf_verbs_writes.specs.Assign.{assign_target, has_form_of, source_in, assigned}
 use Rattle.pybuf_verbs_writes.specs.Laws.{AssignIsSafe}
 use Rattle.pybuf_verbs_writes.proofs.LaidLengths.{length-laid}
-use Rattle.pybuf_verbs_writes.proofs.Safe.{bind, done, passed, not_false, writable}
+use Rattle.pybuf_verbs_writes.proofs.Safe.{writable}
 
 -- what holds of a target
 pub record IsAssignTarget (e : Exporter) (k : ℕ) (slice : PySlice) (target : Layout) : Type 0 where
@@ -41,7 +44,7 @@ target_is e k slice value =
     done_bind P (has_dimensions layout) _ (λ _ _.
     done_bind P (unless (not (length layout.shape == 1)) fault.NotImplemented) _ (λ one is_one.
     done_bind P (saturated_parts_of slice) _ (λ parts given.
-    record { layout = layout; live = found; may_write = passed layout.readonly fault.Kind u may_write; one_dimension = eqb-true (length layout.shape) 1 (not_false (length layout.shape == 1) (passed (not (length layout.shape == 1)) fault.NotImplemented one is_one)); parts = parts; given = given; is = refl }))))))
+    record { layout = layout; live = found; may_write = passed_unless layout.readonly fault.Kind u may_write; one_dimension = eqb-true (length layout.shape) 1 (true_if_not_false (length layout.shape == 1) (passed_unless (not (length layout.shape == 1)) fault.NotImplemented one is_one)); parts = parts; given = given; is = refl }))))))
 
 pub target_inside : LiveLayoutsAreSound → SlicesStayInside → (e : Exporter) (k : ℕ) (slice : PySlice) (target : Layout) → IsAssignTarget e k slice target → IsSoundExporter e → LiesInside (length e.bytes) target
 target_inside live inside e k slice target is sound =
@@ -49,8 +52,8 @@ target_inside live inside e k slice target is sound =
 
 assigned_safe : WritingKeeps → LiveLayoutsAreSound → SlicesStayInside → (e : Exporter) (k : ℕ) (slice : PySlice) (target : Layout) (source : Snap) → IsAssignTarget e k slice target → IsSafe e (assigned e target source)
 assigned_safe writing live inside e k slice target source is =
-    bind e (unless source.released fault.Value) _ (λ _ _.
-    bind e (unless (not (has_form_of target source.format source.itemsize source.shape)) fault.Value) _ (λ _ _. record {
+    safe_bind e (unless source.released fault.Value) _ (λ _ _.
+    safe_bind e (unless (not (has_form_of target source.format source.itemsize source.shape)) fault.Value) _ (λ _ _. record {
       keeps = λ sound.
           writing e (laid e.bytes target.itemsize target.starts source.content) sound (writable e.kind is.layout is.may_write (live e k is.layout sound is.live).readonly)
           (length-laid e.bytes target.itemsize target.starts source.content (target_inside live inside e k slice target is sound));
@@ -59,6 +62,6 @@ assigned_safe writing live inside e k slice target source is =
 
 pub assign_safe : WritingKeeps → LiveLayoutsAreSound → SlicesStayInside → AssignIsSafe
 assign_safe writing live inside e k slice value lents =
-    bind e (assign_target e k slice value) _ (λ target found.
-    bind e (source_in value lents) _ (λ source _.
-    assigned_safe writing live inside e k slice target source (done (IsAssignTarget e k slice) (assign_target e k slice value) target (target_is e k slice value) found)))
+    safe_bind e (assign_target e k slice value) _ (λ target found.
+    safe_bind e (source_in value lents) _ (λ source _.
+    assigned_safe writing live inside e k slice target source (done_holds (IsAssignTarget e k slice) (assign_target e k slice value) target (target_is e k slice value) found)))

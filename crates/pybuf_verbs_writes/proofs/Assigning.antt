@@ -1,9 +1,10 @@
 -- Lemmas for the code of an assignment by a slice.
-use Rattle.std.proofs.Common.{◌≡◌, ℕ, ◌*◌, List, [], ◌∷◌, ◌++◌, length, take, drop, Bool, true, false, true≢false, ap, ap₂, sym, ◌∙◌, refl, subst, arith}
+use Rattle.std.proofs.Common.{◌≡◌, ℕ, List, [], ◌∷◌, ◌++◌, length, take, drop, Bool, true, false, true≢false, ap, ap₂, sym, ◌∙◌, refl, subst, arith}
 use Rattle.std.specs.Prelude.{◌==◌, ◌&&◌, ◌||◌, not, bytes_eq, slice_index, Option, Some, None, Result, Ok}
-use Rattle.std.specs.Option.{option_map}
 use Rattle.std.proofs.lemmas.Bool.{eqb-true}
 use Rattle.std.proofs.lemmas.Grind.{common_steps}
+use Rattle.pybuf_lemmas.proofs.Booleans.{both_of}
+use Rattle.pybuf_memoryview.specs.Facts.{row_shape, length_of_content}
 use Rattle.pybuf_value.specs.declared.faults.Fault.{Fault}
 use Rattle.pybuf_value.specs.declared.faults.Fault.TheVariants as fault
 use Rattle.pybuf_value.specs.declared.snaps.Snap.{Snap}
@@ -13,9 +14,8 @@ use Rattle.pybuf_value.specs.Refusing.{◌>>=◌, unless}
 use Rattle.pybuf_value.specs.Snaps.{is_iterator}
 use Rattle.pybuf_desc.specs.Layouts.{Layout}
 use Rattle.pybuf_memoryview.specs.Sized.{is_sized, byte_count}
-use Rattle.pybuf_memoryview.specs.Fits.{fits_snap, fits_kind, is_whole, is_byte_format, is_row_of}
+use Rattle.pybuf_memoryview.specs.Fits.{fits_snap, fits_kind, is_row_of}
 use Rattle.pybuf_command.specs.declared.loans.Loan.{Loan}
-use Rattle.pybuf_command.specs.declared.loans.Loan.TheVariants as loan
 use Rattle.pybuf_command.specs.declared.commands.LocalReply.{LocalReply}
 use Rattle.pybuf_command.specs.declared.commands.LocalReply.TheVariants as reply
 use Rattle.pybuf_state.specs.Exporter.{Exporter, new_exporter}
@@ -32,15 +32,6 @@ use Rattle.pybuf_command.specs.declared.kinds.Subject.{Subject}
 use Rattle.pybuf_verbs_writes.specs.Laid.{laid}
 use Rattle.pybuf_verbs_writes.specs.Assign.{has_form_of, lent_source, source_of, assigned, assigned_from, assigned_of_value}
 
-both_true : (a b : Bool) → (a && b) ≡ true → (a ≡ true) × (b ≡ true)
-both_true true b is = (refl, is)
-both_true false b is = absurd (cc)
-
-row_shape : (n : ℕ) (shape : List ℕ) → is_row_of n shape ≡ true → shape ≡ n ∷ []
-row_shape n [] is = absurd (true≢false (sym is))
-row_shape n (m ∷ []) is = ap (λ (k : ℕ). k ∷ []) (eqb-true m n is)
-row_shape n (m ∷ (k ∷ shape)) is = absurd (true≢false (sym is))
-
 one_entry : (shape : List ℕ) → length shape ≡ 1 → shape ≡ slice_index shape 0 ∷ []
 one_entry [] one = absurd (omega (arith, one))
 one_entry (n ∷ []) one = refl
@@ -52,8 +43,8 @@ pub record IsOfForm (target : Layout) (itemsize : ℕ) (shape : List ℕ) : Type
 
 pub of_form : (target : Layout) (format : List ℕ) (itemsize : ℕ) (shape : List ℕ) → length target.shape ≡ 1 → has_form_of target format itemsize shape ≡ true → IsOfForm target itemsize shape
 of_form target format itemsize shape one is =
-    let rest = (both_true (bytes_eq format target.format) (itemsize == target.itemsize && is_row_of (slice_index target.shape 0) shape) is).1 in
-    let parts = both_true (itemsize == target.itemsize) (is_row_of (slice_index target.shape 0) shape) rest in
+    let rest = (both_of (bytes_eq format target.format) (itemsize == target.itemsize && is_row_of (slice_index target.shape 0) shape) is).1 in
+    let parts = both_of (itemsize == target.itemsize) (is_row_of (slice_index target.shape 0) shape) rest in
     record { same_size = eqb-true itemsize target.itemsize parts.0; same_shape = row_shape (slice_index target.shape 0) shape parts.1 ∙ sym (one_entry target.shape one) }
 
 -- The source has as many bytes as the target.
@@ -64,24 +55,16 @@ filled : (released : Bool) (count bytes : ℕ) → released ≡ false → (relea
 filled true count bytes live is = absurd (true≢false live)
 filled false count bytes live is = eqb-true count bytes is
 
-whole : (s : Snap) → is_whole s ≡ true → length s.content ≡ byte_count s.itemsize s.shape
-whole s is =
-    let parts = both_true (s.itemsize == 1 && is_byte_format s.format) (is_row_of (length s.content) s.shape) is in
-    let first = both_true (s.itemsize == 1) (is_byte_format s.format) parts.0 in
-    let shape = row_shape (length s.content) s.shape parts.1 in
-    let one : length s.content ≡ 1 * (length s.content * 1) = omega arith in
-    one ∙ sym (ap₂ (λ (size : ℕ) (sh : List ℕ). byte_count size sh) (eqb-true s.itemsize 1 first.0) shape)
-
 by_kind : (k : SnapKind) (s : Snap) → fits_kind k s ≡ true → is_iterator k ≡ false → s.released ≡ false → length s.content ≡ byte_count s.itemsize s.shape
-by_kind snap_kind.Bytes s is other live = whole s is
-by_kind snap_kind.ByteArray s is other live = whole s is
-by_kind snap_kind.Vector s is other live = whole s is
+by_kind snap_kind.Bytes s is other live = length_of_content s is
+by_kind snap_kind.ByteArray s is other live = length_of_content s is
+by_kind snap_kind.Vector s is other live = length_of_content s is
 by_kind snap_kind.View s is other live = filled s.released (length s.content) (byte_count s.itemsize s.shape) live is
 by_kind snap_kind.Iterator s is other live = absurd (true≢false other)
 
 -- A snap that fits has as many bytes as its items.
 pub content_fits : (s : Snap) → fits_snap s ≡ true → is_iterator s.kind ≡ false → s.released ≡ false → length s.content ≡ byte_count s.itemsize s.shape
-content_fits s fit other live = by_kind s.kind s (both_true (fits_kind s.kind s) (is_sized s.format s.itemsize) fit).0 other live
+content_fits s fit other live = by_kind s.kind s (both_of (fits_kind s.kind s) (is_sized s.format s.itemsize) fit).0 other live
 
 -- ---- what is there after an assignment
 
@@ -109,10 +92,6 @@ pub lent_back : (old new : List ℕ) (n : ℕ) → length new ≡ n → take n (
 lent_back old new n is = grind (arith, common_steps, is)
 
 -- ---- by what a handle names and by the kind of a value
-
-pub other_snap : (e : Exporter) (o : Option Snap) → snap_in e (option_map loan.Other o) ≡ o
-other_snap e None = refl
-other_snap e (Some snap) = refl
 
 same_source : (h : ℕ) (s : Option Subject) (o : Option Snap) → lent_source (lent_as h s o ++ []) ≡ source_of o
 same_source h s None = refl

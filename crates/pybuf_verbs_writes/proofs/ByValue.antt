@@ -1,10 +1,16 @@
 -- An assignment by a slice is by value.
-use Rattle.std.proofs.Common.{◌≡◌, ℕ, zero, suc, ◌+◌, ◌-◌, ◌*◌, ◌/◌, ◌<◌, ◌≤◌, List, [], ◌∷◌, ◌++◌, length, take, drop, Bool, true, false, true≢false, inl, inr, ap, ap₂, sym, ◌∙◌, refl, subst, arith}
+use Rattle.std.proofs.Common.{◌≡◌, ℕ, zero, suc, ◌+◌, ◌-◌, ◌*◌, ◌/◌, ◌<◌, ◌≤◌, List, [], ◌∷◌, ◌++◌, length, take, drop, Bool, true, false, inl, inr, ap, ap₂, sym, ◌∙◌, refl, subst, arith}
 use Rattle.std.specs.Prelude.{◌⊎◌, not, All, slice_index, Result, Ok, Err}
 use Rattle.std.proofs.lemmas.Grind.{common_steps}
 use Rattle.std.proofs.Math.Nat.{mul-div_cancel_left}
 use Rattle.std.proofs.lemmas.List.Elements.{All-head, All-tail}
-use Rattle.std.proofs.lemmas.List.{length-append, length-take-le, length-drop}
+use Rattle.std.proofs.lemmas.List.{length-take-le, length-drop}
+use Rattle.pybuf_lemmas.proofs.Numbers.{either_order_turned}
+use Rattle.pybuf_lemmas.proofs.Booleans.{true_if_not_false}
+use Rattle.pybuf_desc.specs.Facts.{whole_bytes as whole_item, length-content}
+use Rattle.pybuf_verbs_writes.specs.Facts.{bytes_before_piece}
+use Rattle.pybuf_value.specs.Facts.{done_holds as done}
+use Rattle.pybuf_index.specs.Facts.{slice_parts_move}
 use Rattle.pybuf_value.specs.declared.faults.Fault.{Fault}
 use Rattle.pybuf_value.specs.declared.faults.Fault.TheVariants as fault
 use Rattle.pybuf_value.specs.declared.values.Value.{Value}
@@ -29,12 +35,10 @@ use Rattle.pybuf_verbs_writes.specs.Assign.{no_iterator, lent_source, source_in,
 use Rattle.pybuf_desc.specs.Items.{bytes_at, bytes_of_items, content_of_layout}
 use Rattle.pybuf_desc.specs.Apart.{AreApart}
 use Rattle.pybuf_verbs_writes.specs.Laws.{AreOutside, IsAssigned, AssignmentsAreByValue, ContentsHoldTheItems}
-use Rattle.pybuf_verbs_writes.proofs.Bytes.{taken, dropped, between}
+use Rattle.pybuf_verbs_writes.proofs.Bytes.{dropped, between}
 use Rattle.pybuf_verbs_writes.proofs.LaidLengths.{piece_short, rest_inside, length-laid}
-use Rattle.pybuf_verbs_writes.proofs.Safe.{done}
 use Rattle.pybuf_verbs_writes.proofs.Assigning.{IsOfForm, of_form, bytes_of_form, content_fits}
 use Rattle.pybuf_verbs_writes.proofs.AssignSafe.{IsAssignTarget, target_is, target_inside}
-use Rattle.pybuf_verbs_writes.proofs.Moving.{slice_moves}
 
 -- ---- lists
 
@@ -46,9 +50,6 @@ none_dropped xs = grind (arith, common_steps)
 
 taken_twice : (xs : List ℕ) (n t : ℕ) → n ≤ t → take n (take t xs) ≡ take n xs
 taken_twice xs n t less = grind (arith, common_steps, less)
-
-whole_item : (bytes : List ℕ) (size t : ℕ) → t + size ≤ length bytes → length (bytes_at bytes size t) ≡ size
-whole_item bytes size t inside = length-take-le size (drop t bytes) (let fits : size ≤ length (drop t bytes) = omega (arith, inside, length-drop t bytes) in fits)
 
 first_taken : (xs ys : List ℕ) (n : ℕ) → length xs ≡ n → take n (xs ++ ys) ≡ xs
 first_taken xs ys n long = grind (arith, common_steps, long)
@@ -86,7 +87,7 @@ beside bytes t size content s n inside (inl after) =
 beside bytes t size content s n inside (inr before) =
     let piece : List ℕ = take size content in
     let within : t ≤ length bytes = omega (arith, inside) in
-    sym (within_first (bytes_with bytes t piece) s n t before) ∙ ap (λ (xs : List ℕ). take n (drop s xs)) (taken bytes piece t within) ∙ within_first bytes s n t before
+    sym (within_first (bytes_with bytes t piece) s n t before) ∙ ap (λ (xs : List ℕ). take n (drop s xs)) (bytes_before_piece bytes piece t within) ∙ within_first bytes s n t before
 
 pub stays : (bytes : List ℕ) (size : ℕ) (starts content : List ℕ) (s n : ℕ) → All (λ t. t + size ≤ length bytes) starts → AreOutside size starts s n → bytes_at (laid bytes size starts content) n s ≡ bytes_at bytes n s
 stays bytes size [] content s n inside outside = refl
@@ -102,10 +103,6 @@ next_item content size k =
     let next : size + k * size ≡ suc k * size = grind arith in
     ap (take size) (dropped_twice content size (k * size)) ∙ ap (λ (n : ℕ). take size (drop n content)) next
 
-other_way : (a b c d : ℕ) → (a ≤ b) ⊎ (c ≤ d) → (c ≤ d) ⊎ (a ≤ b)
-other_way a b c d (inl x) = inr x
-other_way a b c d (inr x) = inl x
-
 pub item_is : (bytes : List ℕ) (size : ℕ) (starts content : List ℕ) (k : ℕ) → All (λ t. t + size ≤ length bytes) starts → length content ≡ size * length starts → AreApart size starts → k < length starts
     → bytes_at (laid bytes size starts content) size (slice_index starts k) ≡ bytes_at content size (k * size)
 item_is bytes size [] content k inside long apart below = absurd (omega (arith, below))
@@ -116,7 +113,7 @@ item_is bytes size (t ∷ starts) content zero inside long apart below =
     let within : t ≤ length bytes = omega (arith, here) in
     let first : 0 * size ≡ 0 = omega arith in
     stays (bytes_with bytes t (take size content)) size starts (drop size content) t size (rest_inside bytes t size starts content inside)
-    (λ i more. other_way (t + size) (slice_index starts i) (slice_index starts i + size) t (apart 0 (suc i) (let less : 0 < suc i = omega arith in less) (let in_all : suc i < length (t ∷ starts) = omega (arith, more) in in_all)))
+    (λ i more. either_order_turned (t + size) (slice_index starts i) (slice_index starts i + size) t (apart 0 (suc i) (let less : 0 < suc i = omega arith in less) (let in_all : suc i < length (t ∷ starts) = omega (arith, more) in in_all)))
     ∙ ap (λ (n : ℕ). take n (drop t (bytes_with bytes t (take size content)))) (sym wide) ∙ between bytes (take size content) t within
     ∙ ap (take size) (sym (none_dropped content)) ∙ ap (λ (n : ℕ). take size (drop n content)) (sym first)
 item_is bytes size (t ∷ starts) content (suc k) inside long apart below =
@@ -153,10 +150,6 @@ refused_not : {B : Type 0} (b : Bool) (f : Fault) (r : Result B Fault) (x : B) �
 refused_not true f r x is = absurd (cc)
 refused_not false f r x is = (refl, is)
 
-not_not : (b : Bool) → not b ≡ false → b ≡ true
-not_not true is = refl
-not_not false is = absurd (true≢false is)
-
 pub record WasAssigned (e : Exporter) (target : Layout) (source : Snap) (after : Exporter × LocalReply) : Type 0 where
   pub live : source.released ≡ false
   pub form : has_form_of target source.format source.itemsize source.shape ≡ true
@@ -172,14 +165,7 @@ pub was_assigned : (e : Exporter) (target : Layout) (source : Snap) (after : Exp
 was_assigned e target source after is =
     let first = refused_not source.released fault.Value (unless (not (has_form_of target source.format source.itemsize source.shape)) fault.Value >>= λ _. okay (record e { bytes = laid e.bytes target.itemsize target.starts source.content }, reply.Ok)) after is in
     let second = refused_not (not (has_form_of target source.format source.itemsize source.shape)) fault.Value (okay (record e { bytes = laid e.bytes target.itemsize target.starts source.content }, reply.Ok)) after first.1 in
-    record { live = first.0; form = not_not (has_form_of target source.format source.itemsize source.shape) second.0; is = ok_same _ after second.1 }
-
-length-items : (bytes : List ℕ) (size : ℕ) (starts : List ℕ) → All (λ t. t + size ≤ length bytes) starts → length (bytes_of_items bytes size starts) ≡ size * length starts
-length-items bytes size [] inside = let none : 0 ≡ size * 0 = omega arith in none
-length-items bytes size (t ∷ starts) inside =
-    length-append (bytes_at bytes size t) (bytes_of_items bytes size starts)
-    ∙ ap₂ (λ (m n : ℕ). m + n) (whole_item bytes size t (All-head (λ t. t + size ≤ length bytes) t starts inside)) (length-items bytes size starts (All-tail (λ t. t + size ≤ length bytes) t starts inside))
-    ∙ grind arith
+    record { live = first.0; form = true_if_not_false (has_form_of target source.format source.itemsize source.shape) second.0; is = ok_same _ after second.1 }
 
 -- Items without bytes are all the same.
 no_bytes : (xs ys : List ℕ) (size s t : ℕ) → size ≡ 0 → bytes_at xs size s ≡ bytes_at ys size t
@@ -206,7 +192,7 @@ assigned_is e target source inside long size = record {
   items_of_view = λ bytes layout of lies apart k below.
       let same : layout.itemsize ≡ target.itemsize = sym (ap (λ (s : Snap). s.itemsize) of) ∙ size in
       let content : source.content ≡ content_of_layout bytes layout = ap (λ (s : Snap). s.content) of in
-      let count : target.itemsize * length target.starts ≡ layout.itemsize * length layout.starts = sym long ∙ ap length content ∙ length-items bytes layout.itemsize layout.starts lies in
+      let count : target.itemsize * length target.starts ≡ layout.itemsize * length layout.starts = sym long ∙ ap length content ∙ length-content bytes layout.itemsize layout.starts lies in
       item_is e.bytes target.itemsize target.starts source.content k inside long apart below
       ∙ ap₂ (λ (xs : List ℕ) (n : ℕ). bytes_at xs n (k * n)) content (sym same)
       ∙ by_size bytes layout k target.itemsize (length target.starts) lies same count below;
@@ -270,7 +256,7 @@ by_value live inside shapes e new k slice v lents r sound fit is =
     let layout = at.layout in
     let here = live e k layout sound at.live in
     let one : length target.shape ≡ 1 = ap (λ (l : Layout). length l.shape) at.is ∙ one_after_slice layout at.parts at.one_dimension in
-    let counted : HasItemsOfItsShape target = subst HasItemsOfItsShape (sym at.is) (shapes layout (slice_index layout.shape 0) [] at.parts (only_entry layout.shape at.one_dimension) here.formed.counted (slice_moves slice at.parts at.given)) in
+    let counted : HasItemsOfItsShape target = subst HasItemsOfItsShape (sym at.is) (shapes layout (slice_index layout.shape 0) [] at.parts (only_entry layout.shape at.one_dimension) here.formed.counted (slice_parts_move slice at.parts at.given)) in
     let form = of_form target source.format source.itemsize source.shape one was.form in
     let long : length source.content ≡ target.itemsize * length target.starts =
     source_fits v lents source fit second.1 was.live ∙ bytes_of_form target source.itemsize source.shape form ∙ ap (λ (n : ℕ). target.itemsize * n) (sym counted) in
@@ -280,7 +266,7 @@ by_value live inside shapes e new k slice v lents r sound fit is =
       live = at.live;
       parts = at.parts;
       given = at.given;
-      moves = slice_moves slice at.parts at.given;
+      moves = slice_parts_move slice at.parts at.given;
       source = source;
       named = second.1;
       unreleased = was.live;

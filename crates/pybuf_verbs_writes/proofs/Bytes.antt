@@ -8,9 +8,6 @@ use Rattle.pybuf_verbs_writes.specs.Laid.{bytes_with}
 pub length-bytes_with : (bytes : List ℕ) (place : ℕ) (piece : List ℕ) → place + length piece ≤ length bytes → length (bytes_with bytes place piece) ≡ length bytes
 length-bytes_with bytes place piece inside = grind (arith, common_steps, inside)
 
-pub taken : (bytes piece : List ℕ) (place : ℕ) → place ≤ length bytes → take place (bytes_with bytes place piece) ≡ take place bytes
-taken bytes piece place inside = grind (arith, common_steps, inside)
-
 pub dropped : (bytes piece : List ℕ) (place : ℕ) → place + length piece ≤ length bytes → drop (place + length piece) (bytes_with bytes place piece) ≡ drop (place + length piece) bytes
 dropped bytes piece place inside = grind (arith, common_steps, inside)
 

@@ -7,6 +7,7 @@ use Rattle.std.proofs.lemmas.Grind.{common_steps}
 use Rattle.std.proofs.lemmas.List.Elements.{All-head, All-tail}
 use Rattle.std.proofs.lemmas.List.FromFn.{length-range_with_len}
 use Rattle.std.proofs.lemmas.List.{set_split, length-append, length-take-le, length-drop}
+use Rattle.pybuf_memoryview.specs.Facts.{bytes_counted}
 use Rattle.pybuf_slice.specs.Reads.{elements_at}
 use Rattle.pybuf_desc.specs.Segments.{bytes_of, item_bytes}
 use Rattle.pybuf_desc.specs.Descriptor.{Descriptor}
@@ -157,9 +158,6 @@ content_of_ranges are_content bytes d start layout ranges stands same = ap (elem
 
 -- ---- items one after the other
 
-bytes_counted : (layout : Layout) → HasItemsOfItsShape layout → nbytes_of layout ≡ layout.itemsize * length layout.starts
-bytes_counted layout counted = ap (λ (n : ℕ). layout.itemsize * n) (sym counted)
-
 -- Items that lie one after the other are written in one go.
 laid_at_once : (bytes : List ℕ) (size : ℕ) (starts content : List ℕ) → flat_map (λ (s : ℕ). range_with_len s size) starts ≡ range_with_len (slice_index starts 0) (size * length starts)
     → length content ≡ size * length starts → All (λ start. start + size ≤ length bytes) starts → slice_index starts 0 + size * length starts ≤ length bytes
@@ -176,6 +174,3 @@ laid_from one_run bytes content layout place counted flat at held ends long =
     let room : slice_index layout.starts 0 + layout.itemsize * length layout.starts ≤ length bytes = omega (arith, at, bytes_counted layout counted, ends) in
     ap (λ (k : ℕ). bytes_with bytes k content) at
     ∙ sym (laid_at_once bytes layout.itemsize layout.starts content (one_run layout flat) (long ∙ bytes_counted layout counted) held room)
-
-pub length-taken : (bytes : List ℕ) (from n : ℕ) → from + n ≤ length bytes → length (take n (drop from bytes)) ≡ n
-length-taken bytes from n enough = length-take-le n (drop from bytes) (let fits : n ≤ length (drop from bytes) = omega (arith, enough, length-drop from bytes) in fits)

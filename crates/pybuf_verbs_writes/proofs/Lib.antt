@@ -4,7 +4,6 @@ pub mod Seen
 pub mod Assigning
 pub mod LaidLengths
 pub mod AssignSafe
-pub mod Moving
 pub mod ByValue
 pub mod Single
 pub mod Numbers

@@ -3,12 +3,16 @@ use Rattle.std.proofs.Common.{◌≡◌, ℕ, zero, suc, ◌+◌, ◌-◌, ◌*�
 use Rattle.std.specs.Prelude.{All, set}
 use Rattle.std.specs.List.{flat_map, range_with_len, zip}
 use Rattle.std.specs.declared.ops.Range.{Range}
-use Rattle.std.proofs.Math.Nat.{zero-mul, mul-le-mul_right}
+use Rattle.std.proofs.Math.Nat.{zero-mul}
 use Rattle.std.proofs.Math.Seq.{take-add}
 use Rattle.std.proofs.lemmas.Grind.{common_steps, flat_map-append}
-use Rattle.std.proofs.lemmas.List.{length-append, length-map, length-take-le, length-drop, append-nil, map-append, drop-drop, take-append-drop, get_or_append_left, get_or-append-add}
+use Rattle.std.proofs.lemmas.List.{length-append, length-map, length-take-le, length-drop, append-nil, map-append, drop-drop, take-append-drop}
 use Rattle.std.proofs.lemmas.List.Elements.{All-head}
-use Rattle.std.proofs.lemmas.List.FromFn.{length-range_with_len, length-map-range_with_len}
+use Rattle.std.proofs.lemmas.List.FromFn.{length-range_with_len}
+use Rattle.pybuf_lemmas.proofs.Lists.{length_of_piece, all_left, all_right}
+use Rattle.pybuf_lemmas.proofs.Numbers.{range_with_one_more, positive_has_predecessor}
+use Rattle.pybuf_desc.specs.Facts.{Inside, bytes_split, length-line as length-ranges}
+use Rattle.pybuf_slice.specs.Facts.{run_of_bytes, elements_both}
 use Rattle.pybuf_slice.specs.Reads.{elements_at}
 use Rattle.pybuf_strided.specs.Apart.{place_of, AreInside, with_piece, moved_at, pieces_at}
 use Rattle.pybuf_desc.specs.declared.line.SegmentLine.{SegmentLine}
@@ -17,7 +21,6 @@ use Rattle.pybuf_desc.specs.SegmentLines.{ranges_of_line, range_on, IsLine}
 use Rattle.pybuf_desc.specs.Laws.{LinesHaveTheirPieces}
 use Rattle.pybuf_verbs_writes.specs.Laid.{bytes_with}
 use Rattle.pybuf_verbs_writes.specs.LaidBytes.{put_at}
-use Rattle.pybuf_verbs_writes.proofs.Ranges.{run_of_bytes, elements_both}
 use Rattle.pybuf_verbs_writes.proofs.Laying.{put_run, put_both, bytes_with_none}
 use Rattle.pybuf_verbs_writes.proofs.Pairs.{firsts, seconds, IsStep}
 
@@ -32,18 +35,12 @@ fewer bytes place size n all = λ some k less. all some k (let more : k < suc n 
 the_last : (bytes : List ℕ) (place : ℕ → ℕ) (size n : ℕ) → Lie bytes place size (suc n) → 0 < size → place n + size ≤ length bytes
 the_last bytes place size n all some = all some n (let last : n < suc n = omega arith in last)
 
-piece_long : (source : List ℕ) (start size : ℕ) → (0 < size → start + size ≤ length source) → length (take size (drop start source)) ≡ size
-piece_long source start zero fits = grind (arith, common_steps)
-piece_long source start (suc size) fits =
-    let room : start + suc size ≤ length source = fits (let some : 0 < suc size = omega arith in some) in
-    length-take-le (suc size) (drop start source) (let enough : suc size ≤ length (drop start source) = omega (arith, room, length-drop start source) in enough)
-
 pub length-pieces : (source : List ℕ) (from : ℕ → ℕ) (size n : ℕ) → Lie source from size n → length (pieces_at source from size n) ≡ n * size
 length-pieces source from size zero all = sym (zero-mul size)
 length-pieces source from size (suc n) all =
     let whole : n * size + size ≡ suc n * size = grind arith in
     length-append (pieces_at source from size n) (take size (drop (from n) source))
-    ∙ ap₂ (λ (x y : ℕ). x + y) (length-pieces source from size n (fewer source from size n all)) (piece_long source (from n) size (the_last source from size n all)) ∙ whole
+    ∙ ap₂ (λ (x y : ℕ). x + y) (length-pieces source from size n (fewer source from size n all)) (length_of_piece source (from n) size (the_last source from size n all)) ∙ whole
 
 pub length-put : (bytes places content : List ℕ) → length (put_at bytes places content) ≡ length bytes
 length-put bytes [] content = refl
@@ -59,12 +56,6 @@ put_piece bytes place (suc size) piece long inside =
     let room : place + suc size ≤ length bytes = inside (let some : 0 < suc size = omega arith in some) in
     sym (ap (λ (n : ℕ). put_at bytes (range_with_len place n) piece) (sym long) ∙ put_run bytes place piece (let fits : place + length piece ≤ length bytes = omega (arith, room, long) in fits))
 
-one_more : (j n : ℕ) → range_with_len j (suc n) ≡ range_with_len j n ++ (j + n) ∷ []
-one_more j zero = let same : j ≡ j + 0 = omega arith in ap (λ (k : ℕ). k ∷ []) same
-one_more j (suc n) =
-    let same : (j + 1) + n ≡ j + suc n = omega arith in
-    ap (λ (xs : List ℕ). j ∷ xs) (one_more (j + 1) n ∙ ap (λ (k : ℕ). range_with_len (j + 1) n ++ k ∷ []) same)
-
 -- the bytes of ranges that have one size, at these places
 abbrev pub places_to : (ℕ → ℕ) → ℕ → ℕ → List ℕ
 places_to to size n = flat_map bytes_of (map (λ k. record { start = to k; end = to k + size }) (range_with_len 0 n))
@@ -74,7 +65,7 @@ places_more to size n =
     let range : ℕ → Range ℕ = λ k. record { start = to k; end = to k + size } in
     let last : 0 + n ≡ n = omega arith in
     let whole : (to n + size) - to n ≡ size = omega arith in
-    ap (λ (ks : List ℕ). flat_map bytes_of (map range ks)) (one_more 0 n ∙ ap (λ (k : ℕ). range_with_len 0 n ++ k ∷ []) last)
+    ap (λ (ks : List ℕ). flat_map bytes_of (map range ks)) (range_with_one_more 0 n ∙ ap (λ (k : ℕ). range_with_len 0 n ++ k ∷ []) last)
     ∙ ap (flat_map bytes_of) (map-append range (range_with_len 0 n) (n ∷ []))
     ∙ flat_map-append bytes_of (map range (range_with_len 0 n)) (range n ∷ [])
     ∙ ap (λ (xs : List ℕ). places_to to size n ++ xs) (append-nil (bytes_of (range n)) ∙ ap (range_with_len (to n)) whole)
@@ -92,7 +83,7 @@ moved_is_put bytes to source from size zero here there = refl
 moved_is_put bytes to source from size (suc n) here there =
     let piece : List ℕ = take size (drop (from n) source) in
     let now : List ℕ = put_at bytes (places_to to size n) (pieces_at source from size n) in
-    let long : length piece ≡ size = piece_long source (from n) size (the_last source from size n there) in
+    let long : length piece ≡ size = length_of_piece source (from n) size (the_last source from size n there) in
     let room : 0 < size → to n + size ≤ length now = λ some. (let was = the_last bytes to size n here some in omega (arith, was, length-put bytes (places_to to size n) (pieces_at source from size n))) in
     ap (λ (bs : List ℕ). with_piece bs (to n) piece) (moved_is_put bytes to source from size n (fewer bytes to size n here) (fewer source from size n there))
     ∙ put_piece now (to n) size piece long room
@@ -112,17 +103,6 @@ length-line line = length-places (place_of line.track.falls line.track.start lin
 
 -- ---- from bytes that lie one after the other
 
-pub row_inside : (from size count len : ℕ) → from + count * size ≤ len → AreInside false from size count size len
-row_inside from size count len enough = record {
-  low = λ k less falls. absurd (cc);
-  high = λ some k less. (
-      let up : suc k ≤ count = omega (arith, less) in
-      let more : suc k * size ≤ count * size = mul-le-mul_right size up in
-      let sum : suc k * size ≡ k * size + size = grind arith in
-      omega (arith, enough, more, sum)
-      );
-}
-
 pub row_pieces : (content : List ℕ) (from size n : ℕ) → pieces_at content (place_of false from size) size n ≡ take (n * size) (drop from content)
 row_pieces content from size zero = let none : 0 ≡ 0 * size = sym (zero-mul size) in ap (λ (k : ℕ). take k (drop from content)) none
 row_pieces content from size (suc n) =
@@ -131,26 +111,6 @@ row_pieces content from size (suc n) =
     ∙ sym (take-add (n * size) size (drop from content)) ∙ ap (λ (k : ℕ). take k (drop from content)) whole
 
 -- ---- the first of many ranges, and the others
-
-abbrev pub Inside : List ℕ → List (Range ℕ) → Type 0
-Inside bytes ranges = All (λ (place : ℕ). place < length bytes) (flat_map bytes_of ranges)
-
-all_left : {X : Type 0} (P : X → Type 0) (xs ys : List X) → All P (xs ++ ys) → All P xs
-all_left P xs ys all = λ k d below.
-    let within : k < length (xs ++ ys) = omega (arith, below, length-append xs ys) in
-    subst P (get_or_append_left xs ys d k below) (all k d within)
-
-all_right : {X : Type 0} (P : X → Type 0) (xs ys : List X) → All P (xs ++ ys) → All P ys
-all_right P xs ys all = λ k d below.
-    let within : length xs + k < length (xs ++ ys) = omega (arith, below, length-append xs ys) in
-    subst P (get_or-append-add xs ys k d) (all (length xs + k) d within)
-
-bytes_split : (first ranges others : List (Range ℕ)) → ranges ≡ first ++ others → flat_map bytes_of ranges ≡ flat_map bytes_of first ++ flat_map bytes_of others
-bytes_split first ranges others same = ap (flat_map bytes_of) same ∙ flat_map-append bytes_of first others
-
-pub first_inside : (bytes : List ℕ) (first ranges others : List (Range ℕ)) → ranges ≡ first ++ others → Inside bytes ranges → Inside bytes first
-first_inside bytes first ranges others same all =
-    all_left (λ (place : ℕ). place < length bytes) (flat_map bytes_of first) (flat_map bytes_of others) (subst (All (λ (place : ℕ). place < length bytes)) (bytes_split first ranges others same) all)
 
 pub others_inside : (bytes more : List ℕ) (first ranges others : List (Range ℕ)) → length more ≡ length bytes → ranges ≡ first ++ others → Inside bytes ranges → Inside more others
 others_inside bytes more first ranges others long same all =
@@ -173,13 +133,6 @@ line_laid bytes more content total from next line ranges others same step copied
     ∙ sym (put_both bytes (flat_map bytes_of (ranges_of_line line)) (flat_map bytes_of others) (take n (drop from content)) (drop n (drop from content)) (length-line line ∙ sym (length-take-le n (drop from content) enough)))
     ∙ ap₂ (λ (ps cs : List ℕ). put_at bytes ps cs) (sym (bytes_split (ranges_of_line line) ranges others same)) (take-append-drop n (drop from content))
     ∙ so_far
-
--- Fewer ranges are left.
-pub fewer_ranges : (line : SegmentLine) (ranges others : List (Range ℕ)) → ranges ≡ ranges_of_line line ++ others → IsLine line → length others < length ranges
-fewer_ranges line ranges others same is =
-    let long : length ranges ≡ line.count + length others = ap length same ∙ length-append (ranges_of_line line) others
-    ∙ ap (λ (n : ℕ). n + length others) (length-map-range_with_len (range_on line.track.falls line.track.start line.track.step line.size) 0 line.count) in
-    omega (arith, long, is.some)
 
 -- ---- pair by pair
 
@@ -205,9 +158,6 @@ second_zipped [] [] long = refl
 second_zipped [] (y ∷ ys) long = absurd (omega (arith, long))
 second_zipped (x ∷ xs) [] long = absurd (omega (arith, long))
 second_zipped (x ∷ xs) (y ∷ ys) long = ap (λ zs. y ∷ zs) (second_zipped xs ys (let fewer : length xs ≡ length ys = omega (arith, long) in fewer))
-
-length-ranges : (line : SegmentLine) → length (ranges_of_line line) ≡ line.count
-length-ranges line = length-map-range_with_len (range_on line.track.falls line.track.start line.track.step line.size) 0 line.count
 
 as_many_ranges : (line lender : SegmentLine) → line.count ≡ lender.count → length (ranges_of_line line) ≡ length (ranges_of_line lender)
 as_many_ranges line lender as_many = length-ranges line ∙ as_many ∙ sym (length-ranges lender)
@@ -240,13 +190,10 @@ heads_alike line lender m n some many alike =
     All-head (λ (pair : Range ℕ × Range ℕ). pair.0.end - pair.0.start ≡ pair.1.end - pair.1.start) (one 0, other 0) (zip (map one (range_with_len 1 m)) (map other (range_with_len 1 n))) both in
     omega (arith, first)
 
-above : (n : ℕ) → 0 < n → n ≡ suc (n - 1)
-above n some = omega (arith, some)
-
 pub as_wide : (line lender : SegmentLine) (pairs others : List (Range ℕ × Range ℕ)) → IsLine line → IsLine lender → pairs ≡ zip (ranges_of_line line) (ranges_of_line lender) ++ others → Alike pairs
     → line.size ≡ lender.size
 as_wide line lender pairs others is lends same alike =
-    heads_alike line lender (line.count - 1) (lender.count - 1) (above line.count is.some) (above lender.count lends.some)
+    heads_alike line lender (line.count - 1) (lender.count - 1) (positive_has_predecessor line.count is.some) (positive_has_predecessor lender.count lends.some)
     (all_left (λ (pair : Range ℕ × Range ℕ). pair.0.end - pair.0.start ≡ pair.1.end - pair.1.start) (zip (ranges_of_line line) (ranges_of_line lender)) others (subst Alike same alike))
 
 pub fewer_pairs : (line lender : SegmentLine) (pairs others : List (Range ℕ × Range ℕ)) → IsLine line → line.count ≡ lender.count → pairs ≡ zip (ranges_of_line line) (ranges_of_line lender) ++ others

@@ -1,18 +1,18 @@
 -- Ranges that are copied pair by pair.
-use Rattle.std.proofs.Common.{◌≡◌, ℕ, zero, suc, ◌+◌, ◌-◌, ◌<◌, ◌≤◌, List, [], ◌∷◌, ◌++◌, length, map, take, drop, ap, ap₂, sym, ◌∙◌, subst, arith}
+use Rattle.std.proofs.Common.{◌≡◌, ℕ, ◌+◌, ◌-◌, ◌<◌, ◌≤◌, List, [], ◌∷◌, ◌++◌, length, map, take, drop, ap, ap₂, sym, ◌∙◌, subst, arith}
 use Rattle.std.specs.Prelude.{All}
 use Rattle.std.specs.List.{flat_map, range_with_len}
 use Rattle.std.specs.declared.ops.Range.{Range}
-use Rattle.std.proofs.lemmas.Grind.{common_steps}
 use Rattle.std.proofs.lemmas.List.Elements.{All-head, All-tail}
-use Rattle.std.proofs.lemmas.List.{length-take-le, length-drop}
 use Rattle.std.proofs.lemmas.List.FromFn.{length-range_with_len}
+use Rattle.pybuf_lemmas.proofs.Lists.{length_of_piece}
+use Rattle.pybuf_slice.specs.Facts.{run_of_bytes, elements_both}
 use Rattle.pybuf_slice.specs.Reads.{elements_at}
 use Rattle.pybuf_desc.specs.Segments.{bytes_of}
 use Rattle.pybuf_verbs_writes.specs.Laid.{bytes_with}
 use Rattle.pybuf_verbs_writes.specs.LaidBytes.{put_at}
 use Rattle.pybuf_verbs_writes.proofs.Bytes.{length-bytes_with}
-use Rattle.pybuf_verbs_writes.proofs.Ranges.{range_inside, rest_inside, run_of_bytes, elements_both}
+use Rattle.pybuf_verbs_writes.proofs.Ranges.{range_inside, rest_inside}
 use Rattle.pybuf_verbs_writes.proofs.Laying.{put_run, put_both, bytes_with_none}
 
 abbrev pub firsts : List (Range ℕ × Range ℕ) → List (Range ℕ)
@@ -48,12 +48,6 @@ put_piece : (bytes : List ℕ) (place size : ℕ) (qs piece rest : List ℕ) →
     → put_at bytes (range_with_len place size ++ qs) (piece ++ rest) ≡ put_at (bytes_with bytes place piece) qs rest
 put_piece bytes place size qs piece rest long fits =
     put_both bytes (range_with_len place size) qs piece rest (length-range_with_len place size ∙ sym long) ∙ ap (λ (bs : List ℕ). put_at bs qs rest) (run_put bytes place size piece long fits)
-
-piece_long : (source : List ℕ) (start size : ℕ) → (0 < size → start + size ≤ length source) → length (take size (drop start source)) ≡ size
-piece_long source start zero fits = grind (arith, common_steps)
-piece_long source start (suc size) fits =
-    let room : start + suc size ≤ length source = fits (let some : 0 < suc size = omega arith in some) in
-    length-take-le (suc size) (drop start source) (let enough : suc size ≤ length (drop start source) = omega (arith, room, length-drop start source) in enough)
 
 kept_by_piece : (bytes : List ℕ) (place size : ℕ) (piece : List ℕ) → length piece ≡ size → (0 < size → place + size ≤ length bytes) → length (bytes_with bytes place piece) ≡ length bytes
 kept_by_piece bytes place size [] long fits = ap length (bytes_with_none bytes place)
@@ -95,7 +89,7 @@ pair_step bytes more source total pairs rest range lender same copied inside sou
     let piece : List ℕ = take size (drop lender.start source) in
     let wide : size ≡ lender.end - lender.start = head_alike range lender pairs rest same alike in
     let lends : 0 < size → lender.start + size ≤ length source = λ some. (let there = ends_inside source lender (seconds pairs) (seconds rest) (ap seconds same) source_inside (let much : 0 < lender.end - lender.start = omega (arith, wide, some) in much) in omega (arith, there, wide)) in
-    let long : length piece ≡ size = piece_long source lender.start size lends in
+    let long : length piece ≡ size = length_of_piece source lender.start size lends in
     let fits : 0 < size → range.start + size ≤ length bytes = ends_inside bytes range (firsts pairs) (firsts rest) (ap firsts same) inside in
     let read : elements_at source (flat_map bytes_of (seconds pairs)) ≡ piece ++ elements_at source (flat_map bytes_of (seconds rest)) =
     ap (λ (ps : List (Range ℕ × Range ℕ)). elements_at source (flat_map bytes_of (seconds ps))) same

@@ -1,20 +1,22 @@
 -- Each effect that writes keeps a sound exporter.
-use Rattle.std.proofs.Common.{◌≡◌, ℕ, ◌+◌, ◌<◌, ◌≤◌, List, [], ◌∷◌, length, Bool, true, false, true≢false, ap, sym, ◌∙◌, refl, subst, arith}
-use Rattle.std.specs.Prelude.{not, ℤ, pos, negsuc, ◌==◌, ◌&&◌, nat_lt, slice_index, Result, Ok, Err}
+use Rattle.std.proofs.Common.{◌≡◌, ℕ, ◌+◌, ◌<◌, ◌≤◌, List, [], ◌∷◌, length, Bool, true, false, true≢false, ap, sym, ◌∙◌, refl, arith}
+use Rattle.std.specs.Prelude.{◌==◌, ◌&&◌, nat_lt, slice_index, Result, Ok, Err}
 use Rattle.std.proofs.lemmas.Bool.{eqb-true}
-use Rattle.std.proofs.lemmas.Grind.{common_steps}
+use Rattle.pybuf_lemmas.proofs.Booleans.{both_of}
+use Rattle.pybuf_state.specs.Facts.{safe_bind, safe_in_kind}
+use Rattle.pybuf_value.specs.Facts.{done_holds, passed_unless}
+use Rattle.pybuf_index.specs.Facts.{entry_below}
 use Rattle.pybuf_value.specs.declared.faults.Fault.{Fault}
 use Rattle.pybuf_value.specs.declared.faults.Fault.TheVariants as fault
 use Rattle.pybuf_value.specs.declared.values.Value.{Value}
 use Rattle.pybuf_value.specs.declared.snaps.Snap.{Snap}
-use Rattle.pybuf_value.specs.Refusing.{◌>>=◌, unless, IfDone, done_bind}
+use Rattle.pybuf_value.specs.Refusing.{unless, IfDone, done_bind}
 use Rattle.pybuf_index.specs.Places.{entry_in}
 use Rattle.pybuf_struct.specs.Formats.{Format, format_of}
 use Rattle.pybuf_struct.specs.Packing.{packed_bytes}
 use Rattle.pybuf_struct.specs.Laws.{PackingFillsTheFormat}
 use Rattle.pybuf_desc.specs.Layouts.{Layout}
 use Rattle.pybuf_memoryview.specs.Sized.{is_size_of, is_sized}
-use Rattle.pybuf_command.specs.declared.commands.LocalReply.{LocalReply}
 use Rattle.pybuf_memoryview.specs.Items.{index_in, is_none, kind_fault, scalar_in, piece_by}
 use Rattle.pybuf_memoryview.specs.Keys.{item_of_key}
 use Rattle.pybuf_memoryview.specs.Laws.{KeysNameItems}
@@ -24,53 +26,27 @@ use Rattle.pybuf_state.specs.Sound.{IsFormed}
 use Rattle.pybuf_state.specs.Laws.{LiveLayoutsAreSound, WritingKeeps}
 use Rattle.pybuf_value.specs.Numbers.{byte_in}
 use Rattle.pybuf_command.specs.declared.kinds.ExporterKind.{ExporterKind}
-use Rattle.pybuf_command.specs.declared.kinds.ExporterKind.TheVariants as kind
-use Rattle.pybuf_command.specs.Kinds.{holds_readonly, of_byte_array}
-use Rattle.pybuf_state.specs.Keeps.{IsCarriedOut, IsSafe}
+use Rattle.pybuf_command.specs.Kinds.{holds_readonly}
+use Rattle.pybuf_state.specs.Keeps.{IsSafe}
 use Rattle.pybuf_verbs_writes.specs.Laid.{bytes_with}
 use Rattle.pybuf_verbs_writes.specs.Set.{byte_set, item_set, set_target}
 use Rattle.pybuf_verbs_writes.specs.Laws.{SetIsSafe}
 use Rattle.pybuf_verbs_writes.proofs.Bytes.{length-bytes_with}
 
-pub bind : {A : Type 0} (e : Exporter) (r : Result A Fault) (f : A → Result (Exporter × LocalReply) Fault) → ((a : A) → r ≡ Ok a → IsSafe e (f a)) → IsSafe e (r >>= f)
-bind e r f after = done_bind (IsCarriedOut e) r f after
-
-pub done : {B : Type 0} (P : B → Type 0) (r : Result B Fault) (x : B) → IfDone P r → r ≡ Ok x → P x
-done P (Ok y) x holds is = let same : y ≡ x = cc in subst P same holds
-done P (Err f) x holds is = absurd (cc)
-
-entry_below : (count : ℕ) (index : ℤ) (p : ℕ) → entry_in count index ≡ Ok p → p < count
-entry_below count (pos n) p found = grind (arith, common_steps)
-entry_below count (negsuc n) p found = grind (arith, common_steps)
-
 -- ---- a byte of a bytearray
 
 byte_safe : WritingKeeps → (e : Exporter) (key value : Value) → holds_readonly e.kind ≡ false → IsSafe e (byte_set e key value)
 byte_safe writing e key value writable =
-    bind e (index_in key) _ (λ index _.
-    bind e (byte_in value) _ (λ byte _.
-    bind e (entry_in (length e.bytes) index) _ (λ place found.
+    safe_bind e (index_in key) _ (λ index _.
+    safe_bind e (byte_in value) _ (λ byte _.
+    safe_bind e (entry_in (length e.bytes) index) _ (λ place found.
     let below : place < length e.bytes = entry_below (length e.bytes) index place found in
     record {
       keeps = λ sound. writing e (bytes_with e.bytes place (byte ∷ [])) sound writable (length-bytes_with e.bytes place (byte ∷ []) (let one : place + 1 ≤ length e.bytes = omega (arith, below) in one));
       answers = refl;
     })))
 
--- If a bytearray has an effect, its exporter may be written.
-in_kind : (e : Exporter) (k : ExporterKind) (r : Result (Exporter × LocalReply) Fault) → e.kind ≡ k → (holds_readonly e.kind ≡ false → IsSafe e r) → IsSafe e (of_byte_array k r)
-in_kind e kind.ByteArray r is safe = safe (ap holds_readonly is)
-in_kind e kind.Bytes r is safe = tt
-in_kind e (kind.Vector readonly) r is safe = tt
-
 -- ---- an item of a view
-
-pub passed : (b : Bool) (f : Fault) (u : Bool) → unless b f ≡ Ok u → b ≡ false
-passed true f u is = absurd (cc)
-passed false f u is = refl
-
-pub not_false : (b : Bool) → not b ≡ false → b ≡ true
-not_false true is = refl
-not_false false is = absurd (true≢false is)
 
 -- what holds of a target
 pub record IsTarget (e : Exporter) (k : ℕ) (target : Layout × ℕ) : Type 0 where
@@ -87,19 +63,15 @@ target_is names e k key value =
     done_bind P (item_of_key layout.shape key) _ (λ item named.
     record {
       live = found;
-      writable = passed layout.readonly fault.Kind u writable;
+      writable = passed_unless layout.readonly fault.Kind u writable;
       item = λ formed. let below = names layout.shape key item named in omega (arith, below, formed.counted);
     }))))
-
-both_true : (a b : Bool) → (a && b) ≡ true → (a ≡ true) × (b ≡ true)
-both_true true b is = (refl, is)
-both_true false b is = absurd (cc)
 
 -- The size of a view's format is its item size.
 pub size_is : (text : List ℕ) (f : Format) (itemsize : ℕ) → format_of text ≡ Ok f → is_sized text itemsize ≡ true → f.size ≡ itemsize
 size_is text f itemsize spelled sized =
     let told : (nat_lt 0 itemsize && f.size == itemsize) ≡ true = rw (sym (ap (λ (r : Result Format Fault). is_size_of itemsize r) spelled)) sized in
-    eqb-true f.size itemsize (both_true (nat_lt 0 itemsize) (f.size == itemsize) told).1
+    eqb-true f.size itemsize (both_of (nat_lt 0 itemsize) (f.size == itemsize) told).1
 
 pub kind_ok : {X : Type 0} (r : Result X Fault) (x : X) → kind_fault r ≡ Ok x → r ≡ Ok x
 kind_ok (Ok y) x is = is
@@ -143,8 +115,8 @@ writable k layout free only = by_kind k (holds_readonly k) layout refl free only
 
 item_safe : WritingKeeps → LiveLayoutsAreSound → PackingFillsTheFormat → (e : Exporter) (k : ℕ) (target : Layout × ℕ) (value : Value) (lents : List Lent) → IsTarget e k target → IsSafe e (item_set e target.0 target.1 value lents)
 item_safe writing live fills e k target value lents is =
-    bind e (piece_by target.0.format (snaps_of lents) value) _ (λ piece found.
-    let made = done (IsPiece target.0 (snaps_of lents) value) (piece_by target.0.format (snaps_of lents) value) piece (piece_is fills target.0 (snaps_of lents) value) found in
+    safe_bind e (piece_by target.0.format (snaps_of lents) value) _ (λ piece found.
+    let made = done_holds (IsPiece target.0 (snaps_of lents) value) (piece_by target.0.format (snaps_of lents) value) piece (piece_is fills target.0 (snaps_of lents) value) found in
     record {
       keeps = λ sound.
           let layout = live e k target.0 sound is.live in
@@ -157,8 +129,8 @@ item_safe writing live fills e k target value lents is =
 
 pub set_safe : WritingKeeps → LiveLayoutsAreSound → PackingFillsTheFormat → KeysNameItems → SetIsSafe
 set_safe writing live fills names = (
-  (λ e key value. in_kind e e.kind (byte_set e key value) refl (λ writable. byte_safe writing e key value writable)),
+  (λ e key value. safe_in_kind e e.kind (byte_set e key value) refl (λ writable. byte_safe writing e key value writable)),
   (λ e k key value lents.
-      bind e (set_target e k key value) _ (λ target found.
-      item_safe writing live fills e k target value lents (done (IsTarget e k) (set_target e k key value) target (target_is names e k key value) found))),
+      safe_bind e (set_target e k key value) _ (λ target found.
+      item_safe writing live fills e k target value lents (done_holds (IsTarget e k) (set_target e k key value) target (target_is names e k key value) found))),
 )

@@ -1,6 +1,8 @@
 -- What is written through one view can be read through every view of the same bytes.
 use Rattle.std.proofs.Common.{◌≡◌, ℕ, ◌+◌, ◌≤◌, List, [], ◌∷◌, length, take, drop, ap, ap₂, sym, ◌∙◌, refl, subst, arith}
 use Rattle.std.specs.Prelude.{slice_index, Result, Ok, Err}
+use Rattle.pybuf_verbs_writes.specs.Facts.{bytes_before_piece}
+use Rattle.pybuf_value.specs.Facts.{done_holds}
 use Rattle.pybuf_value.specs.declared.faults.Fault.{Fault}
 use Rattle.pybuf_value.specs.declared.values.Value.{Value}
 use Rattle.pybuf_value.specs.declared.values.Scalar.{Scalar}
@@ -23,8 +25,8 @@ use Rattle.pybuf_desc.specs.Items.{bytes_at}
 use Rattle.pybuf_memoryview.specs.Items.{item_by, item_of_values}
 use Rattle.pybuf_verbs_writes.specs.Laid.{bytes_with}
 use Rattle.pybuf_verbs_writes.specs.Laws.{IsWritten, WritesAreSeen}
-use Rattle.pybuf_verbs_writes.proofs.Bytes.{taken, dropped, between}
-use Rattle.pybuf_verbs_writes.proofs.Safe.{done, IsPiece, piece_is}
+use Rattle.pybuf_verbs_writes.proofs.Bytes.{dropped, between}
+use Rattle.pybuf_verbs_writes.proofs.Safe.{IsPiece, piece_is}
 
 -- If a chain of two steps isn't refused, neither is its first step.
 first_done : {A B : Type 0} (r : Result A Fault) (f : A → Result B Fault) (y : B) → (r >>= f) ≡ Ok y → (x : A) × (r ≡ Ok x) × (f x ≡ Ok y)
@@ -55,7 +57,7 @@ written reads e layout place value pairs piece formed room made =
     let within : place ≤ length e.bytes = omega (arith, inside) in
     record {
       views = refl;
-      before = taken e.bytes piece place within;
+      before = bytes_before_piece e.bytes piece place within;
       after = ap (λ (n : ℕ). drop (place + n) (bytes_with e.bytes place piece)) (sym long) ∙ dropped e.bytes piece place inside ∙ ap (λ (n : ℕ). drop (place + n) e.bytes) long;
       read_back = λ other same_format same_size.
           ap₂ (λ (text : List ℕ) (n : ℕ). item_by text (bytes_at (bytes_with e.bytes place piece) n place)) same_format (same_size ∙ sym size)
@@ -68,7 +70,7 @@ written_is_seen live fills reads e new k layout item value lents r sound found b
     let place : ℕ = slice_index layout.starts item in
     let sound_layout = live e k layout sound found in
     let piece = first_done (piece_by layout.format pairs value) _ (new, r) done_so in
-    let made = done (IsPiece layout pairs value) (piece_by layout.format pairs value) piece.0 (piece_is fills layout pairs value) piece.1 in
+    let made = done_holds (IsPiece layout pairs value) (piece_by layout.format pairs value) piece.0 (piece_is fills layout pairs value) piece.1 in
     let is_new = ap (λ (p : Exporter × LocalReply). p.0) (ok_same (record e { bytes = bytes_with e.bytes place piece.0 }, reply.Ok) (new, r) piece.2) in (
       made.format,
       made.spelled,

@@ -4,3 +4,4 @@ pub mod Set
 pub mod Writing
 pub mod Assign
 pub mod Laws
+pub mod Facts

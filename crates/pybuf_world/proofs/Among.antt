@@ -6,6 +6,7 @@ use Rattle.std.specs.Option.{option_map}
 use Rattle.std.proofs.lemmas.Bool.{eqb-true, eq-eqb, ne_eqb}
 use Rattle.std.proofs.lemmas.Option.{slice_get-get_or}
 use Rattle.std.proofs.lemmas.List.Folds.{list_any_at}
+use Rattle.pybuf_lemmas.proofs.Lists.{set_to_itself, set_twice}
 use Rattle.pybuf_value.specs.declared.snaps.Snap.{Snap}
 use Rattle.pybuf_value.specs.declared.values.Value.{Value}
 use Rattle.pybuf_value.specs.declared.values.Value.TheVariants as value
@@ -27,7 +28,7 @@ use Rattle.pybuf_world.specs.declared.named.Named.{Named}
 use Rattle.pybuf_world.specs.declared.named.Target.{Target}
 use Rattle.pybuf_world.specs.World.{World, exporter_of, subject_of, loan_of_other, loan_of_name, loan_for, loans_of}
 use Rattle.pybuf_world.specs.Stepping.{named_to, local_step}
-use Rattle.pybuf_world.proofs.Lists.{set-slice_get, slice_get-set_other, set-set}
+use Rattle.pybuf_world.proofs.Lists.{slice_get-set_other}
 
 -- ---- what a name is lent as
 
@@ -257,11 +258,11 @@ stepped_among alike w t v worker dest new r at stepped =
     ap (local_step w t v (loans_of w t.exporter v)) at
     ∙ ap (λ (after : Exporter × LocalReply). (record w { exporters = set w.exporters t.exporter after.0 }, after.1))
     (sym (alike worker t.subject v (named_to (record w { exporters = set w.exporters t.exporter dest }) t.exporter) (names_of (loans_of w t.exporter v)) (alike_among w t.exporter dest worker t.subject v)) ∙ stepped)
-    ∙ ap (λ (es : List Exporter). (record w { exporters = es }, r)) (sym (set-set w.exporters t.exporter dest new))
+    ∙ ap (λ (es : List Exporter). (record w { exporters = es }, r)) (sym (set_twice w.exporters t.exporter dest new))
 
 pub as_before : (w : World) (i : ℕ) (worker dest new : Exporter) → slice_get w.exporters i ≡ Some worker → new ≡ worker → record w { exporters = set (set w.exporters i dest) i new } ≡ w
 as_before w i worker dest new at same =
-    ap (λ (es : List Exporter). record w { exporters = es }) (set-set w.exporters i dest new ∙ ap (set w.exporters i) same ∙ set-slice_get w.exporters i worker at)
+    ap (λ (es : List Exporter). record w { exporters = es }) (set_twice w.exporters i dest new ∙ ap (set w.exporters i) same ∙ set_to_itself w.exporters i worker at)
 
 pub if_ok : {X E : Type 0} (P Q : X → Type 0) (r : Result X E) → ((x : X) → P x → Q x) → IfOk r P → IfOk r Q
 if_ok P Q (Ok x) go holds = go x holds

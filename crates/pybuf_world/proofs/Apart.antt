@@ -1,16 +1,16 @@
 -- In every world that a run reaches, no two items of a view share a byte.
 use Rattle.std.proofs.Common.{List, length, subst}
 use Rattle.std.proofs.Math.Seq.{take-length}
+use Rattle.pybuf_lemmas.proofs.Lists.{element_holds}
 use Rattle.pybuf_state.specs.Spaced.{IsSpaced}
 use Rattle.pybuf_state.specs.Laws.{LiveLayoutsLieApart}
 use Rattle.pybuf_command.specs.declared.worlds.Command.{Command}
 use Rattle.pybuf_world.specs.World.{World, empty_world, world_after_all}
 use Rattle.pybuf_world.specs.Sound.{IsSoundWorld}
 use Rattle.pybuf_world.specs.Laws.{HasViewsOfItemsApart, RunsStaySound, RunsKeepItemsApart}
-use Rattle.pybuf_world.proofs.Lists.{All-slice_get}
 
 world_apart : LiveLayoutsLieApart → (w : World) → IsSoundWorld w → HasViewsOfItemsApart w
-world_apart apart w sound i k e layout at found = apart e k layout (All-slice_get IsSpaced w.exporters i e sound.items_lie_apart at) found
+world_apart apart w sound i k e layout at found = apart e k layout (element_holds IsSpaced w.exporters i e sound.items_lie_apart at) found
 
 -- The world after a whole run is sound, since the run is that of its first commands, as many as there are.
 whole_sound : RunsStaySound → (commands : List Command) → IsSoundWorld (world_after_all empty_world commands)

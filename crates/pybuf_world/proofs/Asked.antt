@@ -1,5 +1,5 @@
 -- A command on a handle, by the exporter that it works on.
-use Rattle.std.proofs.Common.{◌≡◌, ℕ, List, length, Bool, true, false, ap, ◌∙◌, refl, subst}
+use Rattle.std.proofs.Common.{◌≡◌, ℕ, List, length, Bool, true, false, ap, ◌∙◌, refl}
 use Rattle.std.specs.Prelude.{Option, Some, None, Result, Ok, Err, slice_get, if◌then◌else◌}
 use Rattle.pybuf_value.specs.declared.faults.Fault.{Fault}
 use Rattle.pybuf_value.specs.declared.faults.Fault.TheVariants as fault
@@ -65,10 +65,6 @@ pub stepped_so : (P : Exporter × LocalReply → Type 0) (e : Exporter) (s : Sub
     → (estep e s v loans).1 ≡ out → ((f : Fault) → local.Refused f ≡ out → ⊥) → P (estep e s v loans)
 stepped_so P e s v loans out done is known =
     settled P e (answer_of e s v loans) out (if_known P (are_named e (names_of loans) (handles_of v)) (effect e s v (lents_by e (names_of loans) (handles_read s v))) done) is known
-
-pub from_done : {X : Type 0} (P : X → Type 0) (r : Result X Fault) (x : X) → IfDone P r → r ≡ Ok x → P x
-from_done P (Ok y) x done is = let same : y ≡ x = cc in subst P same done
-from_done P (Err f) x done is = absurd (cc)
 
 pub each_done : {X : Type 0} (P : X → Type 0) (r : Result X Fault) → ((x : X) → r ≡ Ok x → P x) → IfDone P r
 each_done P (Ok x) each = each x refl

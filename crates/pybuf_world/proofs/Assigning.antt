@@ -3,6 +3,9 @@ use Rattle.std.proofs.Common.{◌≡◌, ◌⊎◌, inl, inr, ℕ, ◌*◌, ◌<
 use Rattle.std.specs.Prelude.{◌≢◌, set, ◌&&◌, ◌==◌, Option, Some, None, slice_get, IfSome, if◌then◌else◌}
 use Rattle.std.proofs.lemmas.Bool.{eq-eqb}
 use Rattle.std.proofs.lemmas.Bool.Decides.{eqb_tells}
+use Rattle.pybuf_lemmas.proofs.Lists.{element_holds}
+use Rattle.pybuf_value.specs.Facts.{snap_is_there}
+use Rattle.pybuf_state.specs.Facts.{own_snap}
 use Rattle.pybuf_value.specs.declared.faults.Fault.{Fault}
 use Rattle.pybuf_value.specs.declared.faults.Fault.TheVariants as fault
 use Rattle.pybuf_value.specs.declared.values.Scalar.TheVariants as scalar
@@ -39,7 +42,6 @@ use Rattle.pybuf_world.specs.World.{World, exporter_of, subject_of, snap_of_name
 use Rattle.pybuf_world.specs.World as worlds
 use Rattle.pybuf_world.specs.Sound.{IsSoundWorld}
 use Rattle.pybuf_world.specs.Assigning.{item_of_exporter, item_of_name, item_in_world, source_in_world, LoansOfWorldsFit, IsAssignedInWorld, WorldStepsAssignByValue}
-use Rattle.pybuf_world.proofs.Lists.{All-slice_get}
 
 -- ---- what is lent fits
 
@@ -54,7 +56,7 @@ snap_fits (Some snap) is = is
 
 other_fits : SubjectsFit → (w : World) (m : ℕ) (o : Option Exporter) (s : Subject) → IsSoundWorld w → slice_get w.exporters m ≡ o → fits (loan_of_other o s) ≡ true
 other_fits fit w m None s sound found = refl
-other_fits fit w m (Some e) s sound found = snap_fits (snap_of_subject e s) (fit e s (All-slice_get IsSoundExporter w.exporters m e sound.exporters_are_sound found))
+other_fits fit w m (Some e) s sound found = snap_fits (snap_of_subject e s) (fit e s (element_holds IsSoundExporter w.exporters m e sound.exporters_are_sound found))
 
 either_fits : (b : Bool) (own other : Loan) → fits own ≡ true → fits other ≡ true → fits (if b then own else other) ≡ true
 either_fits true own other first second = first
@@ -93,21 +95,18 @@ own_items e (subject.Iter k) j = refl
 abbrev there : Snap → Option Snap
 there snap = Some snap
 
-same_there : (snap source : Snap) → there snap ≡ Some source → snap ≡ source
-same_there snap source is = cc
-
 lent_items : SnapsHoldTheItems → (e lender : Exporter) (s : Subject) (o : Option Snap) (source : Snap) (j : ℕ) → IsSoundExporter lender → snap_of_subject lender s ≡ o → snap_in e (Some (loan_of_snap o)) ≡ Some source
     → source.released ≡ false → j * source.itemsize < length source.content → item_of_loan e (Some (loan_of_snap o)) j ≡ item_of_subject lender s j
 lent_items hold e lender s None source j sound is named unreleased below = absurd (cc)
 lent_items hold e lender s (Some snap) source j sound is named unreleased below =
-    let same : snap ≡ source = same_there snap source named in
+    let same : snap ≡ source = snap_is_there snap source named in
     hold lender s snap j sound is (ap (λ (x : Snap). x.released) same ∙ unreleased) (subst (λ (x : Snap). j * x.itemsize < length x.content) (sym same) below)
 
 other_items : SnapsHoldTheItems → (w : World) (e : Exporter) (m : ℕ) (o : Option Exporter) (s : Subject) (source : Snap) (j : ℕ) → IsSoundWorld w → slice_get w.exporters m ≡ o → snap_in e (Some (loan_of_other o s)) ≡ Some source
     → source.released ≡ false → j * source.itemsize < length source.content → item_of_loan e (Some (loan_of_other o s)) j ≡ item_of_exporter o s j
 other_items hold w e m None s source j sound found named unreleased below = refl
 other_items hold w e m (Some lender) s source j sound found named unreleased below =
-    lent_items hold e lender s (snap_of_subject lender s) source j (All-slice_get IsSoundExporter w.exporters m lender sound.exporters_are_sound found) refl named unreleased below
+    lent_items hold e lender s (snap_of_subject lender s) source j (element_holds IsSoundExporter w.exporters m lender sound.exporters_are_sound found) refl named unreleased below
 
 by_lender : SnapsHoldTheItems → (w : World) (e : Exporter) (i : ℕ) (n : Named) (source : Snap) (j : ℕ) → ((exporter_of n == i) ≡ true) × (exporter_of n ≡ i) ⊎ ((exporter_of n == i) ≡ false) × (exporter_of n ≢ i) → IsSoundWorld w
     → slice_get w.exporters i ≡ Some e → snap_in e (Some (loan_of_name w i (Some n))) ≡ Some source → source.released ≡ false → j * source.itemsize < length source.content
@@ -147,11 +146,6 @@ same_items hold w e i slice (value.List parts) source j sound found named unrele
 same_items hold w e i slice (value.Slices parts) source j sound found named unreleased below = refl
 
 -- ---- the source
-
-own_snap : (e : Exporter) (s : Subject) → snap_in e (Some (loan_of_own s)) ≡ snap_of_subject e s
-own_snap e subject.Own = refl
-own_snap e (subject.View k) = refl
-own_snap e (subject.Iter k) = refl
 
 lent_snap : (e : Exporter) (o : Option Snap) → snap_in e (Some (loan_of_snap o)) ≡ o
 lent_snap e None = refl
@@ -235,8 +229,8 @@ by_exporter steps hold fit apart slices w new handle number k slice v (Some e) s
     let t = target_of handle (named.View number k) in
     let loans = loans_for w number slice v in
     let done = done_so w new t (estep e (subject.View k) (verb.Set (value.Slice slice) v) loans) is in
-    let made = steps e done.after k slice v loans (All-slice_get IsSoundExporter w.exporters number e sound.exporters_are_sound found) (fit w number (verb.Set (value.Slice slice) v) sound) done.replied in
-    let lie = slices made.layout made.parts made.moves (apart e k made.layout (All-slice_get IsSpaced w.exporters number e sound.items_lie_apart found) made.live) in
+    let made = steps e done.after k slice v loans (element_holds IsSoundExporter w.exporters number e sound.exporters_are_sound found) (fit w number (verb.Set (value.Slice slice) v) sound) done.replied in
+    let lie = slices made.layout made.parts made.moves (apart e k made.layout (element_holds IsSpaced w.exporters number e sound.items_lie_apart found) made.live) in
     record {
       before = e;
       there = found;

@@ -2,6 +2,7 @@
 use Rattle.std.proofs.Common.{◌≡◌, ℕ, ◌+◌, ◌<◌, Bool, true, false, true≢false, List, [], ◌∷◌, ◌++◌, length, set, ap, ap₂, sym, ◌∙◌, refl, subst, arith}
 use Rattle.std.specs.Prelude.{Option, Some, None, Result, Ok, Err, slice_get, if◌then◌else◌}
 use Rattle.std.proofs.lemmas.List.{length-append, length-set}
+use Rattle.pybuf_lemmas.proofs.Lists.{get-left, set_to_itself, element_holds}
 use Rattle.pybuf_value.specs.declared.faults.Fault.{Fault}
 use Rattle.pybuf_value.specs.declared.faults.Fault.TheVariants as fault
 use Rattle.pybuf_value.specs.declared.snaps.Snap.{Snap}
@@ -28,12 +29,12 @@ use Rattle.pybuf_command.specs.Handles.{handles_of_options}
 use Rattle.pybuf_world.specs.World.{World, bytes_of_new, world_with_bytes, are_given, loans_of, has_view, handles_with_copy, reply_with_copy, reply_after, world_after, step_with_loans, target_of, step_of_handle}
 use Rattle.pybuf_world.specs.Sound.{IsSoundWorld}
 use Rattle.pybuf_world.specs.Laws.{IsCopyMade, IsViewedCopyMade, CopiesAreExportersOfTheirOwn, UnviewedCopiesAreExportersOfTheirOwn}
-use Rattle.pybuf_world.proofs.Lists.{slice_get-append, slice_get-push, set-slice_get, All-slice_get}
+use Rattle.pybuf_world.proofs.Lists.{slice_get-push}
 
 first_named : (handles : List Named) (x y : Named) → slice_get ((handles ++ x ∷ []) ++ y ∷ []) (length handles) ≡ Some x
 first_named handles x y =
     let more : length (handles ++ x ∷ []) ≡ length handles + 1 = length-append handles (x ∷ []) in
-    slice_get-append (handles ++ x ∷ []) (y ∷ []) (length handles) (omega (arith, more)) ∙ slice_get-push handles x
+    get-left (handles ++ x ∷ []) (y ∷ []) (length handles) (omega (arith, more)) ∙ slice_get-push handles x
 
 second_named : (handles : List Named) (x y : Named) → slice_get ((handles ++ x ∷ []) ++ y ∷ []) (length handles + 1) ≡ Some y
 second_named handles x y =
@@ -83,7 +84,7 @@ copy_made copies faithful w t v loans e snap x found sound is at_x =
       made = made_of (is_readonly_subject e t.subject) snap;
       there = found;
       behind = ap₂ (λ (es : List Exporter) (n : Exporter). es ++ made_of (is_readonly_subject n t.subject) snap ∷ [])
-          (ap (set w.exporters t.exporter) copied.0 ∙ set-slice_get w.exporters t.exporter e found) copied.0;
+          (ap (set w.exporters t.exporter) copied.0 ∙ set_to_itself w.exporters t.exporter e found) copied.0;
       exporter_named = ap (slice_get (handles_with_copy (has_view snap.kind) (length w.exporters) w.handles)) (sym at_x) ∙ copy_named (has_view snap.kind) (length w.exporters) w.handles;
       holds = (faithful e t.subject snap sound copied.1).1;
     }
@@ -121,7 +122,7 @@ made_by_reply copies faithful w t v loans e (local.Refused f) x y found sound is
 loans_made : FreshRepliesAreCopies → CopiesAreFaithful → (w : World) (t : Target) (v : Verb) (loans : List (ℕ × Loan)) (o : Option Exporter) (x y : ℕ) → slice_get w.exporters t.exporter ≡ o → IsSoundWorld w
     → (step_with_loans w t v loans o).1 ≡ reply.Pair x y → IsViewedCopyMade w (step_with_loans w t v loans o).0 x y
 loans_made copies faithful w t v loans (Some e) x y found sound paired =
-    made_by_reply copies faithful w t v loans e (estep e t.subject v loans).1 x y found (All-slice_get IsSoundExporter w.exporters t.exporter e sound.exporters_are_sound found) refl paired
+    made_by_reply copies faithful w t v loans e (estep e t.subject v loans).1 x y found (element_holds IsSoundExporter w.exporters t.exporter e sound.exporters_are_sound found) refl paired
 loans_made copies faithful w t v loans None x y found sound paired = absurd (cc)
 
 handle_made : FreshRepliesAreCopies → CopiesAreFaithful → (w : World) (handle : ℕ) (v : Verb) (o : Option Named) (x y : ℕ) → IsSoundWorld w
@@ -176,7 +177,7 @@ one_by_reply copies faithful w t v loans e (local.Refused f) x found sound is re
 loans_made_one : FreshRepliesAreCopies → CopiesAreFaithful → (w : World) (t : Target) (v : Verb) (loans : List (ℕ × Loan)) (o : Option Exporter) (x : ℕ) → slice_get w.exporters t.exporter ≡ o → IsSoundWorld w
     → (step_with_loans w t v loans o).1 ≡ reply.Handle x → length w.exporters < length (step_with_loans w t v loans o).0.exporters → IsCopyMade w (step_with_loans w t v loans o).0 subject.Own x
 loans_made_one copies faithful w t v loans (Some e) x found sound replied more =
-    one_by_reply copies faithful w t v loans e (estep e t.subject v loans).1 x found (All-slice_get IsSoundExporter w.exporters t.exporter e sound.exporters_are_sound found) refl replied more
+    one_by_reply copies faithful w t v loans e (estep e t.subject v loans).1 x found (element_holds IsSoundExporter w.exporters t.exporter e sound.exporters_are_sound found) refl replied more
 loans_made_one copies faithful w t v loans None x found sound replied more = absurd (cc)
 
 handle_made_one : FreshRepliesAreCopies → CopiesAreFaithful → (w : World) (handle : ℕ) (v : Verb) (o : Option Named) (x : ℕ) → IsSoundWorld w

@@ -4,6 +4,7 @@ use Rattle.std.specs.Prelude.{◌==◌, not, cond, Option, Some, None, Ok, slice
 use Rattle.std.specs.Option.{ok_or}
 use Rattle.std.proofs.lemmas.Bool.Decides.{eqb_tells}
 use Rattle.std.proofs.lemmas.List.Sums.{sum_by-cons}
+use Rattle.pybuf_lemmas.proofs.Lists.{set_to_itself}
 use Rattle.pybuf_value.specs.declared.faults.Fault.{Fault}
 use Rattle.pybuf_value.specs.declared.faults.Fault.TheVariants as fault
 use Rattle.pybuf_value.specs.declared.values.Scalar.TheVariants as scalar
@@ -37,7 +38,6 @@ use Rattle.pybuf_world.specs.World.{World, exporter_of, subject_of, loan_of_othe
 use Rattle.pybuf_world.specs.Releasing.{AddsItselfByHandle, EditsAreFree, ReleasesAreCounted, ExportsAreCounted}
 use Rattle.pybuf_world.proofs.Asked.{steps_so}
 use Rattle.pybuf_world.proofs.Assigning.{lent_last}
-use Rattle.pybuf_world.proofs.Lists.{set-slice_get}
 use Rattle.pybuf_world.proofs.Refusals.{copy_no_refusal}
 
 -- ---- edits
@@ -134,7 +134,7 @@ counted_less (x ∷ views) (suc k) v at live =
 
 released_is : (e : Exporter) (k : ℕ) (v : View) → slice_get e.views k ≡ Some v → v.released ≡ true → released_at e k v ≡ e
 released_is e k v at released =
-    ap (λ (views : List View). record e { views = views }) (ap (λ (b : Bool). set e.views k (record v { released = b })) (sym released) ∙ set-slice_get e.views k v at)
+    ap (λ (views : List View). record e { views = views }) (ap (λ (b : Bool). set e.views k (record v { released = b })) (sym released) ∙ set_to_itself e.views k v at)
 
 pub counted_releases : ReleasesAreCounted
 counted_releases w handle number k v e given there view =
@@ -151,6 +151,6 @@ pub counted_exports : ReleasedViewsDontCount → ExportsAreCounted
 counted_exports count w handle number e given there = record {
   replied =
       steps_so w handle (verb.Property property.Exports) (named.Exporter number) e (e, local.Item (count_item (exports_of e))) given there refl
-      ∙ ap (λ (xs : List Exporter). (record w { exporters = xs }, reply.Item (count_item (exports_of e)))) (set-slice_get w.exporters number e there);
+      ∙ ap (λ (xs : List Exporter). (record w { exporters = xs }, reply.Item (count_item (exports_of e)))) (set_to_itself w.exporters number e there);
   none = count e;
 }

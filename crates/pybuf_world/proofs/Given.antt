@@ -6,13 +6,14 @@ use Rattle.std.specs.List.{All}
 use Rattle.std.proofs.lemmas.Bool.{eqb-true, eq-eqb}
 use Rattle.std.proofs.lemmas.Option.{slice_get_within}
 use Rattle.std.proofs.lemmas.List.Elements.{All-weaker}
+use Rattle.pybuf_lemmas.proofs.Lists.{get-left, element_after_set}
 use Rattle.pybuf_command.specs.declared.kinds.Subject.{Subject}
 use Rattle.pybuf_state.specs.Exporter.{Exporter, has_subject}
 use Rattle.pybuf_world.specs.declared.named.Named.{Named}
 use Rattle.pybuf_world.specs.World.{exporter_of, subject_of}
 use Rattle.pybuf_world.specs.Sound.{IsGiven}
 use Rattle.pybuf_world.proofs.Handles.{NameExporters}
-use Rattle.pybuf_world.proofs.Lists.{slice_get-append, slice_get-push, slice_get-set, slice_get-set_other}
+use Rattle.pybuf_world.proofs.Lists.{slice_get-push, slice_get-set_other}
 
 -- The second exporter has everything that the first has.
 abbrev pub HasAllOf : Exporter → Exporter → Type 0
@@ -28,7 +29,7 @@ name_exporters es handles given =
 with_more : (es : List Exporter) (e : Exporter) (n : Named) → IsGiven es n → IsGiven (es ++ e ∷ []) n
 with_more es e n is = record {
   exporter = is.exporter;
-  there = slice_get-append es (e ∷ []) (exporter_of n) (slice_get_within es (exporter_of n) is.exporter is.there) ∙ is.there;
+  there = get-left es (e ∷ []) (exporter_of n) (slice_get_within es (exporter_of n) is.exporter is.there) ∙ is.there;
   has = is.has;
 }
 
@@ -43,7 +44,7 @@ of_last es e n at has = record { exporter = e; there = ap (slice_get (es ++ e �
 
 -- a name of the new exporter, or of what it has
 pub of_set : (es : List Exporter) (i : ℕ) (old new : Exporter) (n : Named) → slice_get es i ≡ Some old → exporter_of n ≡ i → has_subject new (subject_of n) ≡ true → IsGiven (set es i new) n
-of_set es i old new n at same has = record { exporter = new; there = ap (slice_get (set es i new)) same ∙ slice_get-set es i old new at; has = has }
+of_set es i old new n at same has = record { exporter = new; there = ap (slice_get (set es i new)) same ∙ element_after_set es i old new at; has = has }
 
 with_set : (es : List Exporter) (i : ℕ) (old new : Exporter) (n : Named) (b : Bool) → (exporter_of n == i) ≡ b → slice_get es i ≡ Some old → HasAllOf old new → IsGiven es n → IsGiven (set es i new) n
 with_set es i old new n true equal at stays is =

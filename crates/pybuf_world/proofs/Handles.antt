@@ -8,10 +8,11 @@ use Rattle.std.proofs.lemmas.List.{get_or_push}
 use Rattle.std.proofs.lemmas.List.Folds.{position_or_len_push}
 use Rattle.std.proofs.lemmas.List.Sums.{position_or_len_is}
 use Rattle.std.proofs.Math.ListN.{get_or-append}
+use Rattle.pybuf_lemmas.proofs.Lists.{get-left}
 use Rattle.pybuf_world.specs.declared.named.Named.{Named}
 use Rattle.pybuf_world.specs.declared.named.Named.TheVariants as named
 use Rattle.pybuf_world.specs.World.{exporter_of, is_name_of}
-use Rattle.pybuf_world.proofs.Lists.{slice_get-append, slice_get-push}
+use Rattle.pybuf_world.proofs.Lists.{slice_get-push}
 
 -- the first handle that names an exporter, or the number of handles if none does
 abbrev pub first : List Named → ℕ → ℕ
@@ -38,7 +39,7 @@ one_stays_named : (handles : List Named) (name : Named) (i : ℕ) → slice_get 
     → slice_get (handles ++ name ∷ []) (first (handles ++ name ∷ []) i) ≡ Some (named.Exporter i)
 one_stays_named handles name i at =
     ap (slice_get (handles ++ name ∷ [])) (first_stays handles name i at)
-    ∙ slice_get-append handles (name ∷ []) (first handles i) (slice_get_within handles (first handles i) (named.Exporter i) at) ∙ at
+    ∙ get-left handles (name ∷ []) (first handles i) (slice_get_within handles (first handles i) (named.Exporter i) at) ∙ at
 
 pub stay_named : (n : ℕ) (handles : List Named) (name : Named) → AreNamed n handles → AreNamed n (handles ++ name ∷ [])
 stay_named n handles name names i below = one_stays_named handles name i (names i below)

@@ -1,12 +1,16 @@
 -- Handles that `compare` finds equal have the same hash.
 use Rattle.std.proofs.Common.{◌≡◌, ◌⊎◌, inl, inr, ℕ, ◌*◌, ◌<◌, List, [], ◌∷◌, ◌++◌, Bool, true, false, true≢false, ap, sym, ◌∙◌, refl, subst, arith}
-use Rattle.std.specs.Prelude.{◌==◌, ◌&&◌, ◌||◌, not, codes, nat_lt, Option, Some, None, Result, Ok, Err, slice_get, IfSome, if◌then◌else◌}
+use Rattle.std.specs.Prelude.{◌&&◌, ◌||◌, not, codes, Option, Some, None, Result, Ok, Err, slice_get, IfSome, if◌then◌else◌}
 use Rattle.std.specs.List.{All}
 use Rattle.std.specs.Option.{option_map, ok_or}
 use Rattle.std.specs.Ordering.{is_eq}
 use Rattle.std.specs.declared.cmp.Ordering.{Ordering}
 use Rattle.std.specs.declared.cmp.Ordering.TheVariants.{Less, Equal, Greater}
 use Rattle.std.proofs.lemmas.Bool.{eqb-true}
+use Rattle.pybuf_lemmas.proofs.Booleans.{both_of}
+use Rattle.pybuf_lemmas.proofs.Lists.{element_holds}
+use Rattle.pybuf_equality.specs.Facts.{one_byte}
+use Rattle.pybuf_state.specs.Facts.{given_snap, view_given}
 use Rattle.pybuf_value.specs.declared.faults.Fault.{Fault}
 use Rattle.pybuf_value.specs.declared.faults.Fault.TheVariants as fault
 use Rattle.pybuf_value.specs.declared.values.Scalar.TheVariants as scalar
@@ -20,7 +24,6 @@ use Rattle.pybuf_value.specs.Refusing.{◌>>=◌, unless, IfDone, done_bind}
 use Rattle.pybuf_value.specs.Order.{order_of}
 use Rattle.pybuf_value.specs.Snaps.{content_of_view, content_of_kind, content_of, is_iterator}
 use Rattle.pybuf_value.specs.Laws.{OrdersAll}
-use Rattle.pybuf_struct.specs.Formats.{codes_in, layout_from, format_after_prefix}
 use Rattle.pybuf_desc.specs.Layouts.{Layout, product}
 use Rattle.pybuf_desc.specs.Items.{content_of_layout}
 use Rattle.pybuf_command.specs.Kinds.{holds_readonly}
@@ -46,7 +49,7 @@ use Rattle.pybuf_equality.specs.Laws.{IsByteFormat, HasByteItems, EqualByteViews
 use Rattle.pybuf_state.specs.Exporter.{Exporter, View, view_at, live_layout}
 use Rattle.pybuf_state.specs.Keeps.{is_vector}
 use Rattle.pybuf_state.specs.Fits.{SubjectsFit}
-use Rattle.pybuf_state.specs.Loans.{Lent, given_loan, lent_as, lents_by, names_of, snap_in, subject_in}
+use Rattle.pybuf_state.specs.Loans.{Lent, lent_as, lents_by, names_of, snap_in, subject_in}
 use Rattle.pybuf_state.specs.Snaps.{snap_kind_of, snap_of_exporter, snap_of_view, snap_of_subject}
 use Rattle.pybuf_state.specs.Sound.{IsSoundExporter}
 use Rattle.pybuf_verbs_reads.specs.Property.{property_of_layout}
@@ -59,7 +62,6 @@ use Rattle.pybuf_world.specs.Sound.{IsSoundWorld}
 use Rattle.pybuf_world.specs.Hashing.{ShowsByteFormat, IsHashOf, WorldEqualViewsHashAlike}
 use Rattle.pybuf_world.proofs.Asked.{asked, steps_so, stepped_so, only_bytes, only_truth}
 use Rattle.pybuf_world.proofs.Assigning.{lent_last, snap_by_name}
-use Rattle.pybuf_world.proofs.Lists.{All-slice_get}
 
 -- ---- an unreleased view
 
@@ -183,19 +185,6 @@ has_hash w handle bytes hash =
 
 -- ---- items of one byte
 
-both_true : (a b : Bool) → (a && b) ≡ true → (a ≡ true) × (b ≡ true)
-both_true true b is = (refl, is)
-both_true false b is = absurd (true≢false (sym is))
-
-one_of : (size : ℕ) → (nat_lt 0 size && 1 == size) ≡ true → size ≡ 1
-one_of size is = sym (eqb-true 1 size (both_true (nat_lt 0 size) (1 == size) is).1)
-
-one_byte : (format : List ℕ) (size : ℕ) → IsByteFormat format → is_sized format size ≡ true → size ≡ 1
-unfolding codes_in layout_from format_after_prefix
-one_byte format size (inl is) sized = one_of size (ap (λ text. is_sized text size) (sym is) ∙ sized)
-one_byte format size (inr (inl is)) sized = one_of size (ap (λ text. is_sized text size) (sym is) ∙ sized)
-one_byte format size (inr (inr is)) sized = one_of size (ap (λ text. is_sized text size) (sym is) ∙ sized)
-
 shown_byte_format : (w : World) (handle : ℕ) (format : List ℕ) → ShowsByteFormat w handle → (format ≡ codes "B") ⊎ ((wstep w (command.Do handle (verb.Property property.Format))).1 ≡ reply.Text format) → IsByteFormat format
 shown_byte_format w handle format shows (inl is) = inr (inl is)
 shown_byte_format w handle format shows (inr is) = shows format is
@@ -212,9 +201,9 @@ byte_items fit whole w handle bytes sound shows small h =
     let n = h.name in
     let fits : fits_snap h.snap ≡ true =
     if_some (λ (x : Snap). fits_snap x ≡ true) (snap_of_subject h.exporter (subject_of n)) h.snap
-    (fit h.exporter (subject_of n) (All-slice_get IsSoundExporter w.exporters (exporter_of n) h.exporter sound.exporters_are_sound h.there)) h.lent in
+    (fit h.exporter (subject_of n) (element_holds IsSoundExporter w.exporters (exporter_of n) h.exporter sound.exporters_are_sound h.there)) h.lent in
     let format = shown_byte_format w handle h.snap.format shows h.format in
-    let one = one_byte h.snap.format h.snap.itemsize format (both_true (fits_kind h.snap.kind h.snap) (is_sized h.snap.format h.snap.itemsize) fits).1 in
+    let one = one_byte h.snap.format h.snap.itemsize format (both_of (fits_kind h.snap.kind h.snap) (is_sized h.snap.format h.snap.itemsize) fits).1 in
     let all = whole h.snap fits h.unreleased (not_iterator h.snap.kind h.items) in
     record {
       format = format;
@@ -224,14 +213,6 @@ byte_items fit whole w handle bytes sound shows small h =
     }
 
 -- ---- what the other handle is lent as
-
-pub given_snap : (e : Exporter) (o : Option Loan) → snap_in e (given_loan o) ≡ snap_in e o
-given_snap e (Some loan.Missing) = refl
-given_snap e (Some loan.Own) = refl
-given_snap e (Some (loan.View k)) = refl
-given_snap e (Some (loan.Iter k)) = refl
-given_snap e (Some (loan.Other snap)) = refl
-given_snap e None = refl
 
 abbrev loans_for : World → ℕ → ℕ → List (ℕ × Loan)
 loans_for w i other = loans_of w i (verb.Compare op.Eq (value.One (scalar.Handle other)))
@@ -326,11 +307,7 @@ very_view e k (Some loan.Missing) is = absurd (true≢false (sym is))
 very_view e k None is = absurd (true≢false (sym is))
 
 equal_snaps : (left right : Snap) → equals_snap left (Some right) ≡ true → same_view left right ≡ true
-equal_snaps left right is = (both_true (not (is_iterator right.kind)) (same_view left right) (both_true (not (left.released || right.released)) (not (is_iterator right.kind) && same_view left right) is).1).1
-
-view_found : (o : Option View) (view : View) → ok_or o fault.UnknownName ≡ Ok view → o ≡ Some view
-view_found (Some v) view is = cc
-view_found None view is = absurd (cc)
+equal_snaps left right is = (both_of (not (is_iterator right.kind)) (same_view left right) (both_of (not (left.released || right.released)) (not (is_iterator right.kind) && same_view left right) is).1).1
 
 same_there : (left right : Snap) (o : Option Snap) → o ≡ Some left → o ≡ Some right → left ≡ right
 same_there left right o first second = cc
@@ -366,7 +343,7 @@ same_content fit whole alike orders w handle other bytes other_bytes sound shows
     let left = snap_of_view e.bytes done.view in
     let answer : (is_view_of_number k (subject_in o) || equals_snap left (Some g.snap)) ≡ true =
     ap (equals_other k left (other_value other)) (sym lent) ∙ ap truth_of_reply (sym (ap (λ (x : Exporter × LocalReply). x.1) done.replied) ∙ is) in
-    let found : snap_of_subject e (subject.View k) ≡ Some left = ap (option_map (snap_of_view e.bytes)) (view_found (slice_get e.views k) done.view done.at) in
+    let found : snap_of_subject e (subject.View k) ≡ Some left = ap (option_map (snap_of_view e.bytes)) (view_given (slice_get e.views k) done.view done.at) in
     let own : h.snap ≡ left = same_there h.snap left (snap_of_subject e (subject_of h.name)) h.lent (ap (snap_of_subject e) named ∙ found) in
     by_answer alike e k o h.snap left g.snap own (byte_items fit whole w handle bytes sound shows small h) (byte_items fit whole w other other_bytes sound other_shows other_small g) found
     (other_lent w e i other h.there ∙ hashed_snap w other other_bytes g) (either (is_view_of_number k (subject_in o)) (equals_snap left (Some g.snap)) answer)

@@ -3,6 +3,7 @@ use Rattle.std.proofs.Common.{◌≡◌, ◌≢◌, ℕ, ◌≤◌, Bool, true, 
 use Rattle.std.specs.Prelude.{◌==◌, ◌&&◌, ◌||◌, nat_lt, Option, Some, None, Result, Ok, Err, if◌then◌else◌}
 use Rattle.std.specs.List.{list_all, list_any}
 use Rattle.std.proofs.lemmas.Bool.{eq-eqb, eqb-true, le-ltb}
+use Rattle.pybuf_lemmas.proofs.Booleans.{and_false}
 use Rattle.pybuf_value.specs.declared.faults.Fault.{Fault}
 use Rattle.pybuf_value.specs.declared.faults.Fault.TheVariants as fault
 use Rattle.pybuf_value.specs.declared.snaps.Snap.{Snap}
@@ -97,10 +98,6 @@ pub stand_behind : NewExportersStandBehind
 stand_behind w k options made = given_made w (are_given w (handles_of_options options)) k options made
 
 -- ---- handles that were never given
-
-and_false : (b : Bool) → (b && false) ≡ false
-and_false true = refl
-and_false false = refl
 
 either_unknown : (n h x : ℕ) (is any all : Bool) → (x == h) ≡ is → (is || any) ≡ true → n ≤ h → (any ≡ true → all ≡ false) → (nat_lt x n && all) ≡ false
 either_unknown n h x true any all same among from later =

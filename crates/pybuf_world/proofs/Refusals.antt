@@ -2,6 +2,7 @@
 use Rattle.std.proofs.Common.{◌≡◌, ℕ, ◌+◌, ◌<◌, Bool, true, false, List, [], ◌∷◌, ◌++◌, length, set, ap, ◌∙◌, refl, arith}
 use Rattle.std.proofs.lemmas.List.{length-append}
 use Rattle.std.specs.Prelude.{Option, Some, None, Result, Ok, Err, slice_get, if◌then◌else◌}
+use Rattle.pybuf_lemmas.proofs.Lists.{get-left, set_to_itself}
 use Rattle.pybuf_value.specs.declared.faults.Fault.{Fault}
 use Rattle.pybuf_value.specs.declared.faults.Fault.TheVariants as fault
 use Rattle.pybuf_command.specs.declared.commands.Verb.{Verb}
@@ -20,7 +21,6 @@ use Rattle.pybuf_command.specs.declared.worlds.Reply.TheVariants as reply
 use Rattle.pybuf_command.specs.Handles.{handles_of_options}
 use Rattle.pybuf_world.specs.World.{World, bytes_of_new, world_with_bytes, are_given, loans_of, has_view, handles_with_copy, reply_with_copy, handles_after, world_after, step_with_loans, target_of, step_of_handle}
 use Rattle.pybuf_world.specs.Laws.{RefusalsChangeNothing, HandlesStay}
-use Rattle.pybuf_world.proofs.Lists.{slice_get-append, set-slice_get}
 
 -- ---- refusals
 
@@ -55,7 +55,7 @@ loans_refusal : RefusedCommandsChangeNothing → (w : World) (t : Target) (v : V
     → (step_with_loans w t v loans o).1 ≡ reply.Refused f → (step_with_loans w t v loans o).0 ≡ w
 loans_refusal stays w t v loans (Some e) f at is =
     after_refusal w t (estep e t.subject v loans).0 (estep e t.subject v loans).1 f
-    (λ refused. ap (set w.exporters t.exporter) (stays e t.subject v loans f refused) ∙ set-slice_get w.exporters t.exporter e at) is
+    (λ refused. ap (set w.exporters t.exporter) (stays e t.subject v loans f refused) ∙ set_to_itself w.exporters t.exporter e at) is
 loans_refusal stays w t v loans None f at is = refl
 
 handle_refusal : RefusedCommandsChangeNothing → (w : World) (handle : ℕ) (v : Verb) (o : Option Named) (f : Fault) → (step_of_handle w handle v o).1 ≡ reply.Refused f → (step_of_handle w handle v o).0 ≡ w
@@ -82,13 +82,13 @@ refusals_leave_all stays w (command.Do handle v) f is = handle_refusal stays w h
 copy_handles : (viewed : Bool) (n : ℕ) (handles : List Named) (h : ℕ) → h < length handles → slice_get (handles_with_copy viewed n handles) h ≡ slice_get handles h
 copy_handles true n handles h below =
     let more : length (handles ++ named.Exporter n ∷ []) ≡ length handles + 1 = length-append handles (named.Exporter n ∷ []) in
-    slice_get-append (handles ++ named.Exporter n ∷ []) (named.View n 0 ∷ []) h (omega (arith, below, more))
-    ∙ slice_get-append handles (named.Exporter n ∷ []) h below
-copy_handles false n handles h below = slice_get-append handles (named.Exporter n ∷ []) h below
+    get-left (handles ++ named.Exporter n ∷ []) (named.View n 0 ∷ []) h (omega (arith, below, more))
+    ∙ get-left handles (named.Exporter n ∷ []) h below
+copy_handles false n handles h below = get-left handles (named.Exporter n ∷ []) h below
 
 after_handles : (w : World) (t : Target) (r : LocalReply) (h : ℕ) → h < length w.handles → slice_get (handles_after w t r) h ≡ slice_get w.handles h
-after_handles w t (local.View k) h below = slice_get-append w.handles (named.View t.exporter k ∷ []) h below
-after_handles w t (local.Iter k) h below = slice_get-append w.handles (named.Iterator t.exporter k ∷ []) h below
+after_handles w t (local.View k) h below = get-left w.handles (named.View t.exporter k ∷ []) h below
+after_handles w t (local.Iter k) h below = get-left w.handles (named.Iterator t.exporter k ∷ []) h below
 after_handles w t (local.Fresh snap) h below = copy_handles (has_view snap.kind) (length w.exporters) w.handles h below
 after_handles w t local.Ok h below = refl
 after_handles w t local.Itself h below = refl
@@ -115,7 +115,7 @@ handle_handles w handle v (Some name) h below =
 handle_handles w handle v None h below = refl
 
 bytes_handles : (w : World) (k : ExporterKind) (r : Result (List ℕ) Fault) (h : ℕ) → h < length w.handles → slice_get (world_with_bytes w k r).0.handles h ≡ slice_get w.handles h
-bytes_handles w k (Ok bytes) h below = slice_get-append w.handles (named.Exporter (length w.exporters) ∷ []) h below
+bytes_handles w k (Ok bytes) h below = get-left w.handles (named.Exporter (length w.exporters) ∷ []) h below
 bytes_handles w k (Err g) h below = refl
 
 given_handles : (w : World) (given : Bool) (k : ExporterKind) (r : Result (List ℕ) Fault) (h : ℕ) → h < length w.handles

@@ -5,6 +5,7 @@ use Rattle.std.proofs.lemmas.Option.{slice_get-get_or}
 use Rattle.pybuf_value.specs.declared.faults.Fault.{Fault}
 use Rattle.pybuf_value.specs.declared.faults.Fault.TheVariants as fault
 use Rattle.std.specs.Option.{ok_or}
+use Rattle.pybuf_lemmas.proofs.Lists.{element_after_set, set_twice, element_holds}
 use Rattle.pybuf_value.specs.Refusing.{◌>>=◌}
 use Rattle.pybuf_command.specs.declared.kinds.Subject.TheVariants as subject
 use Rattle.pybuf_state.specs.Exporter.{Exporter, View, has_subject, released_at, released_in}
@@ -14,17 +15,16 @@ use Rattle.pybuf_world.specs.declared.named.Named.TheVariants as named
 use Rattle.pybuf_world.specs.World.{World, world_with_released, released_in_exporter, released_by_name, released_by, is_name_of_view}
 use Rattle.pybuf_world.specs.Sound.{IsGiven, IsSoundWorld}
 use Rattle.pybuf_world.specs.Laws.{ReleasingByHandleTwiceIsOnce, ReleasesAreRefusedByName}
-use Rattle.pybuf_world.proofs.Lists.{slice_get-set, set-set, All-slice_get}
 
 -- The world with the released exporter stays the same when the view is released again.
 world_again : ReleasingTwiceIsOnce → (w once : World) (i k : ℕ) (e : Exporter) (r : Result Exporter Fault) → slice_get w.exporters i ≡ Some e → r ≡ released_in e k → world_with_released w i r ≡ Ok once → released_in_exporter once i k (slice_get once.exporters i) ≡ Ok once
 world_again twice w once i k e (Ok after) at was is =
     let same : record w { exporters = set w.exporters i after } ≡ once = cc in
-    let found = slice_get-set w.exporters i e after at in
+    let found = element_after_set w.exporters i e after at in
     let again : released_in_exporter (record w { exporters = set w.exporters i after }) i k (slice_get (set w.exporters i after) i) ≡ Ok (record w { exporters = set w.exporters i after }) =
     ap (released_in_exporter (record w { exporters = set w.exporters i after }) i k) found
     ∙ ap (world_with_released (record w { exporters = set w.exporters i after }) i) (twice e after k (sym was))
-    ∙ ap (λ (xs : List Exporter). Ok (record w { exporters = xs })) (set-set w.exporters i after after) in
+    ∙ ap (λ (xs : List Exporter). Ok (record w { exporters = xs })) (set_twice w.exporters i after after) in
     subst (λ (x : World). released_in_exporter x i k (slice_get x.exporters i) ≡ Ok x) same again
 world_again twice w once i k e (Err f) at was is = absurd (cc)
 
@@ -76,7 +76,7 @@ no_refusal (Err g) new f done is = cc
 
 only_by_name : (w : World) (handle : ℕ) (o : Option Named) (f : Fault) → slice_get w.handles handle ≡ o → IsSoundWorld w → released_by_name w o ≡ Err f → (f ≡ fault.UnknownName) × (is_name_of_view o ≡ false)
 only_by_name w handle (Some (named.View i k)) f at sound is =
-    let after = view_released w i k (All-slice_get (IsGiven w.exporters) w.handles handle (named.View i k) sound.names_are_given at) in
+    let after = view_released w i k (element_holds (IsGiven w.exporters) w.handles handle (named.View i k) sound.names_are_given at) in
     absurd (no_refusal (released_in_exporter w i k (slice_get w.exporters i)) after.0 f after.1 is)
 only_by_name w handle (Some (named.Exporter i)) f at sound is = let same : f ≡ fault.UnknownName = cc in (same, refl)
 only_by_name w handle (Some (named.Iterator i k)) f at sound is = let same : f ≡ fault.UnknownName = cc in (same, refl)

@@ -1,6 +1,7 @@
 -- A run goes on by one command.
-use Rattle.std.proofs.Common.{◌≡◌, ℕ, ◌+◌, ◌<◌, List, [], ◌∷◌, ◌++◌, length, take, get_or, ap, sym, ◌∙◌, refl, append_assoc}
+use Rattle.std.proofs.Common.{◌≡◌, ℕ, ◌+◌, ◌<◌, List, [], ◌∷◌, ◌++◌, length, take, get_or, ap, sym, ◌∙◌, append_assoc}
 use Rattle.std.proofs.lemmas.List.{take_more}
+use Rattle.pybuf_world.specs.Facts.{after_both, replies_of_both}
 use Rattle.pybuf_command.specs.declared.worlds.Command.{Command}
 use Rattle.pybuf_command.specs.declared.worlds.Reply.{Reply}
 use Rattle.pybuf_world.specs.World.{World, wstep, world_after_all, replies_of}
@@ -10,23 +11,14 @@ pub record IsRun (old : World) (commands : List Command) (new : World) (before r
   pub world : new ≡ world_after_all old commands
   pub replied : replies ≡ before ++ replies_of old commands
 
--- one list of commands after another
-after_all-append : (w : World) (xs ys : List Command) → world_after_all w (xs ++ ys) ≡ world_after_all (world_after_all w xs) ys
-after_all-append w [] ys = refl
-after_all-append w (x ∷ xs) ys = after_all-append (wstep w x).0 xs ys
-
-replies_of-append : (w : World) (xs ys : List Command) → replies_of w (xs ++ ys) ≡ replies_of w xs ++ replies_of (world_after_all w xs) ys
-replies_of-append w [] ys = refl
-replies_of-append w (x ∷ xs) ys = ap (λ rs. (wstep w x).1 ∷ rs) (replies_of-append (wstep w x).0 xs ys)
-
 -- the world after one command more
 after_one_more : (w : World) (cs : List Command) (i : ℕ) (c : Command) → i < length cs → c ≡ get_or cs i c → world_after_all w (take (i + 1) cs) ≡ (wstep (world_after_all w (take i cs)) c).0
 after_one_more w cs i c below is =
-    ap (world_after_all w) (take_more cs i c below ∙ ap (λ x. take i cs ++ x ∷ []) (sym is)) ∙ after_all-append w (take i cs) (c ∷ [])
+    ap (world_after_all w) (take_more cs i c below ∙ ap (λ x. take i cs ++ x ∷ []) (sym is)) ∙ after_both w (take i cs) (c ∷ [])
 
 replies_of_one_more : (w : World) (cs : List Command) (i : ℕ) (c : Command) → i < length cs → c ≡ get_or cs i c → replies_of w (take (i + 1) cs) ≡ replies_of w (take i cs) ++ (wstep (world_after_all w (take i cs)) c).1 ∷ []
 replies_of_one_more w cs i c below is =
-    ap (replies_of w) (take_more cs i c below ∙ ap (λ x. take i cs ++ x ∷ []) (sym is)) ∙ replies_of-append w (take i cs) (c ∷ [])
+    ap (replies_of w) (take_more cs i c below ∙ ap (λ x. take i cs ++ x ∷ []) (sym is)) ∙ replies_of_both w (take i cs) (c ∷ [])
 
 -- A run goes on by one command.
 pub one_more : (old w after : World) (cs : List Command) (i : ℕ) (c : Command) (r : Reply) (before rs more : List Reply)

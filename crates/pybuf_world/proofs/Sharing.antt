@@ -1,11 +1,16 @@
 -- What is written through one handle is read through every other handle that has the item.
 use Rattle.std.proofs.Common.{◌≡◌, ◌≢◌, ◌⊎◌, inl, inr, ℕ, ◌+◌, ◌-◌, ◌<◌, ◌≤◌, List, [], ◌∷◌, ◌++◌, length, set, take, drop, Bool, true, false, true≢false, ap, ap₂, sym, ◌∙◌, refl, subst, arith}
-use Rattle.std.specs.Prelude.{◌==◌, ◌&&◌, not, nat_lt, slice_index, Option, Some, None, Result, Ok, Err, slice_get, if◌then◌else◌}
+use Rattle.std.specs.Prelude.{◌==◌, not, nat_lt, slice_index, Option, Some, None, Result, Ok, Err, slice_get, if◌then◌else◌}
 use Rattle.std.specs.List.{flat_map, list_all}
 use Rattle.std.specs.Option.{ok_or}
 use Rattle.std.proofs.lemmas.Bool.{eqb-true}
 use Rattle.std.proofs.lemmas.Bool.Decides.{eqb_tells}
 use Rattle.std.proofs.lemmas.List.{take-take, drop-drop, drop-take}
+use Rattle.pybuf_lemmas.proofs.Booleans.{both_of}
+use Rattle.pybuf_lemmas.proofs.Lists.{set_to_itself, element_after_set, element_holds}
+use Rattle.pybuf_exporter.specs.Facts.{set_by_item}
+use Rattle.pybuf_value.specs.Facts.{done_holds}
+use Rattle.pybuf_state.specs.Facts.{given_snap}
 use Rattle.pybuf_value.specs.declared.faults.Fault.{Fault}
 use Rattle.pybuf_value.specs.declared.faults.Fault.TheVariants as fault
 use Rattle.pybuf_value.specs.declared.values.Scalar.{Scalar}
@@ -45,18 +50,17 @@ use Rattle.pybuf_verbs_writes.specs.Laid.{bytes_with}
 use Rattle.pybuf_verbs_writes.specs.Set.{item_set, set_target, set_of_view}
 use Rattle.pybuf_verbs_writes.specs.Laws.{IsWritten, WritesAreSeen}
 use Rattle.pybuf_verbs_methods.specs.Names.{paired}
-use Rattle.pybuf_exporter.specs.Step.{get_of_view, set_through_view, effect, settled_answer, estep}
+use Rattle.pybuf_exporter.specs.Step.{get_of_view, effect, settled_answer, estep}
 use Rattle.pybuf_world.specs.declared.named.Named.{Named}
 use Rattle.pybuf_world.specs.declared.named.Named.TheVariants as named
 use Rattle.pybuf_world.specs.World.{World, snap_for, pairs_of, loans_of, world_after, step_with_loans, target_of, step_of_handle, wstep}
 use Rattle.pybuf_world.specs.Sound.{IsSoundWorld}
 use Rattle.pybuf_world.specs.Exporters.{ExporterLaws}
 use Rattle.pybuf_world.specs.Sharing.{HasItemAt, bytes_in_exporter, bytes_in_world, normal_item, ShareNoByte, IsWrittenInWorld, WorldWritesAreSeen, WritesApartAreNotSeen, SharedWritesAreSeen}
-use Rattle.pybuf_world.proofs.Asked.{steps_so, stepped_so, from_done, each_done}
+use Rattle.pybuf_world.proofs.Asked.{steps_so, stepped_so, each_done}
 use Rattle.pybuf_world.proofs.Assigning.{done_so, lent_last, refused_not, snap_by_name}
-use Rattle.pybuf_world.proofs.Hashing.{given_snap}
 use Rattle.pybuf_world.proofs.Sound.{wstep_sound}
-use Rattle.pybuf_world.proofs.Lists.{set-slice_get, slice_get-set, slice_get-set_other, All-slice_get}
+use Rattle.pybuf_world.proofs.Lists.{slice_get-set_other}
 
 -- ---- keys that name an item have no handles in them
 
@@ -81,14 +85,10 @@ number_no_handle (scalar.Bytes bytes) is = refl
 number_no_handle (scalar.Text text) is = refl
 number_no_handle scalar.Ellipsis is = refl
 
-both_true : (a b : Bool) → (a && b) ≡ true → (a ≡ true) × (b ≡ true)
-both_true true b is = (refl, is)
-both_true false b is = absurd (true≢false (sym is))
-
 numbers_no_handles : (parts : List Scalar) → list_all is_number parts ≡ true → flat_map handles_in_scalar parts ≡ []
 numbers_no_handles [] is = refl
 numbers_no_handles (s ∷ parts) is =
-    let both = both_true (is_number s) (list_all is_number parts) is in
+    let both = both_of (is_number s) (list_all is_number parts) is in
     ap₂ (λ (xs ys : List ℕ). xs ++ ys) (number_no_handle s both.0) (numbers_no_handles parts both.1)
 
 all_numbers : (b : Bool) (r : Result ℕ Fault) (item : ℕ) → (unless (not b) fault.Kind >>= λ _. r) ≡ Ok item → b ≡ true
@@ -163,8 +163,8 @@ handle_or_item handle layout false bytes = reply.Item (item_by layout.format byt
 
 world_reads : (b : Bool) (w : World) (handle number k : ℕ) (e : Exporter) (layout : Layout) (bytes : List ℕ) → slice_get w.exporters number ≡ Some e
     → world_after w (target_of handle (named.View number k)) (item_or_view e layout b bytes) ≡ (w, handle_or_item handle layout b bytes)
-world_reads true w handle number k e layout bytes there = ap (λ (xs : List Exporter). (record w { exporters = xs }, reply.Handle handle)) (set-slice_get w.exporters number e there)
-world_reads false w handle number k e layout bytes there = ap (λ (xs : List Exporter). (record w { exporters = xs }, reply.Item (item_by layout.format bytes))) (set-slice_get w.exporters number e there)
+world_reads true w handle number k e layout bytes there = ap (λ (xs : List Exporter). (record w { exporters = xs }, reply.Handle handle)) (set_to_itself w.exporters number e there)
+world_reads false w handle number k e layout bytes there = ap (λ (xs : List Exporter). (record w { exporters = xs }, reply.Item (item_by layout.format bytes))) (set_to_itself w.exporters number e there)
 
 -- `get` of an item replies what the item's bytes read as.
 gets : (w : World) (handle : ℕ) (key : Value) (number place : ℕ) (layout : Layout) → HasItemAt w handle key number place layout
@@ -203,18 +203,11 @@ set_is : (e : Exporter) (k : ℕ) (key v : Value) (lents : List Lent) → IfDone
 set_is e k key v lents =
     let P = IsItemSet e k key v lents in
     done_bind P (set_target e k key v) _ (λ target found.
-    let is = from_done (IsTarget e k key) (set_target e k key v) target (target_is e k key v) found in
+    let is = done_holds (IsTarget e k key) (set_target e k key v) target (target_is e k key v) found in
     each_done P (item_set e target.0 target.1 v lents) (λ after done. record { layout = target.0; live = is.live; item = target.1; chosen = is.chosen; written = done }))
 
-set_by_key : (e : Exporter) (k : ℕ) (key v : Value) (lents : List Lent) → is_slice key ≡ false → set_through_view e k key v lents ≡ set_of_view e k key v lents
-set_by_key e k (value.Slice slice) v lents is = absurd (true≢false is)
-set_by_key e k (value.One s) v lents is = refl
-set_by_key e k (value.Tuple parts) v lents is = refl
-set_by_key e k (value.List parts) v lents is = refl
-set_by_key e k (value.Slices slices) v lents is = refl
-
 item_is_set : (e : Exporter) (k : ℕ) (key v : Value) (lents : List Lent) → is_slice key ≡ false → IfDone (IsItemSet e k key v lents) (effect e (subject.View k) (verb.Set key v) lents)
-item_is_set e k key v lents is = subst (IfDone (IsItemSet e k key v lents)) (sym (set_by_key e k key v lents is)) (set_is e k key v lents)
+item_is_set e k key v lents is = subst (IfDone (IsItemSet e k key v lents)) (sym (set_by_item e k key v lents is)) (set_is e k key v lents)
 
 -- Nothing but the bytes changes.
 record IsBytesSet (old new : Exporter) : Type 0 where
@@ -277,7 +270,7 @@ with_set w number e = record w { exporters = set w.exporters number e }
 set_bytes : (w : World) (number count from : ℕ) (before after : Exporter) → slice_get w.exporters number ≡ Some before → bytes_at after.bytes count from ≡ bytes_at before.bytes count from
     → bytes_in_world (with_set w number after) number count from ≡ bytes_in_world w number count from
 set_bytes w number count from before after there same =
-    ap (λ (o : Option Exporter). bytes_in_exporter o count from) (slice_get-set w.exporters number before after there) ∙ same ∙ sym (ap (λ (o : Option Exporter). bytes_in_exporter o count from) there)
+    ap (λ (o : Option Exporter). bytes_in_exporter o count from) (element_after_set w.exporters number before after there) ∙ same ∙ sym (ap (λ (o : Option Exporter). bytes_in_exporter o count from) there)
 
 other_bytes : (w : World) (number other count from : ℕ) (after : Exporter) → number ≢ other → bytes_in_world (with_set w number after) other count from ≡ bytes_in_world w other count from
 other_bytes w number other count from after apart = ap (λ (o : Option Exporter). bytes_in_exporter o count from) (slice_get-set_other w.exporters number other after apart)
@@ -314,7 +307,7 @@ item_stays w number before after other key n place its there same (inl one) has 
       view = has.view;
       names = has.names;
       exporter = after;
-      there = ap (slice_get (set w.exporters number after)) (sym one.1) ∙ slice_get-set w.exporters number before after there;
+      there = ap (slice_get (set w.exporters number after)) (sym one.1) ∙ element_after_set w.exporters number before after there;
       live = live_by_views before after has.view same ∙ ap (λ (e : Exporter). live_layout e has.view) (sym is) ∙ has.live;
       item = has.item;
       chosen = has.chosen;
@@ -347,14 +340,14 @@ stays_so w new number before after there stands same other n place key its has =
 
 sizes_same : (r : Result Format Fault) (a b : ℕ) → is_size_of a r ≡ true → is_size_of b r ≡ true → a ≡ b
 sizes_same (Ok format) a b first second =
-    sym (eqb-true format.size a (both_true (nat_lt 0 a) (format.size == a) first).1) ∙ eqb-true format.size b (both_true (nat_lt 0 b) (format.size == b) second).1
+    sym (eqb-true format.size a (both_of (nat_lt 0 a) (format.size == a) first).1) ∙ eqb-true format.size b (both_of (nat_lt 0 b) (format.size == b) second).1
 sizes_same (Err f) a b first second = absurd (true≢false (sym first))
 
 same_size : LiveLayoutsAreSound → (w later : World) (handle other : ℕ) (key other_key : Value) (number place n p : ℕ) (layout its : Layout) → IsSoundWorld w → IsSoundWorld later → HasItemAt w handle key number place layout
     → HasItemAt later other other_key n p its → its.format ≡ layout.format → its.itemsize ≡ layout.itemsize
 same_size live w later handle other key other_key number place n p layout its sound later_sound has other_has same =
-    let mine = live has.exporter has.view layout (All-slice_get IsSoundExporter w.exporters number has.exporter sound.exporters_are_sound has.there) has.live in
-    let theirs = live other_has.exporter other_has.view its (All-slice_get IsSoundExporter later.exporters n other_has.exporter later_sound.exporters_are_sound other_has.there) other_has.live in
+    let mine = live has.exporter has.view layout (element_holds IsSoundExporter w.exporters number has.exporter sound.exporters_are_sound has.there) has.live in
+    let theirs = live other_has.exporter other_has.view its (element_holds IsSoundExporter later.exporters n other_has.exporter later_sound.exporters_are_sound other_has.there) other_has.live in
     sizes_same (format_of layout.format) its.itemsize layout.itemsize (subst (λ (text : List ℕ). is_sized text its.itemsize ≡ true) same theirs.formed.sized) mine.formed.sized
 
 -- ---- what was written is seen
@@ -367,7 +360,7 @@ reads_item w handle layout true bytes x plain is = absurd (true≢false plain)
 reads_item w handle layout false bytes x plain is = ap (λ (i : Item). with_reply w (reply.Item i)) is
 
 set_there : (w : World) (number count from : ℕ) (before after : Exporter) → slice_get w.exporters number ≡ Some before → bytes_in_world (with_set w number after) number count from ≡ bytes_at after.bytes count from
-set_there w number count from before after there = ap (λ (o : Option Exporter). bytes_in_exporter o count from) (slice_get-set w.exporters number before after there)
+set_there w number count from before after there = ap (λ (o : Option Exporter). bytes_in_exporter o count from) (element_after_set w.exporters number before after there)
 
 seen_so : (w new later : World) (number place other : ℕ) (other_key : Value) (before after : Exporter) (layout its : Layout) (read wanted : Item) → slice_get w.exporters number ≡ Some before → new ≡ with_set w number after
     → IsWritten before after layout place read → read ≡ wanted → HasItemAt later other other_key number place its → names_itself its.shape other_key ≡ false → its.format ≡ layout.format → its.itemsize ≡ layout.itemsize
@@ -399,7 +392,7 @@ written_so seen live names w new handle number k key v e sound given plain there
     let is_set = subst (IsItemSet e k key v lents) done.replied one in
     let layout = is_set.layout in
     let place : ℕ = slice_index layout.starts is_set.item in
-    let sound_e = All-slice_get IsSoundExporter w.exporters number e sound.exporters_are_sound there in
+    let sound_e = element_holds IsSoundExporter w.exporters number e sound.exporters_are_sound there in
     let named_item : is_set.item < product layout.shape = names layout.shape key is_set.item is_set.chosen in
     let counted : length layout.starts ≡ product layout.shape = (live e k layout sound_e is_set.live).formed.counted in
     let below : is_set.item < length layout.starts = omega (arith, named_item, counted) in

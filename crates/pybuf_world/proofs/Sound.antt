@@ -3,6 +3,7 @@ use Rattle.std.proofs.Common.{◌≡◌, ℕ, ◌+◌, Bool, true, false, List, 
 use Rattle.std.specs.Prelude.{nat_lt, Option, Some, None, Result, Ok, Err, IfOk, OnErr, slice_get, if◌then◌else◌}
 use Rattle.std.proofs.lemmas.List.{length-append, length-set}
 use Rattle.std.proofs.lemmas.List.Elements.{All-push, All-set, All-nil}
+use Rattle.pybuf_lemmas.proofs.Lists.{element_holds}
 use Rattle.pybuf_value.specs.declared.faults.Fault.{Fault}
 use Rattle.pybuf_value.specs.declared.faults.Fault.TheVariants as fault
 use Rattle.pybuf_value.specs.Refusing.{◌>>=◌, IfDone}
@@ -40,7 +41,6 @@ use Rattle.pybuf_world.specs.Stepping.{local_step}
 use Rattle.pybuf_world.specs.Tables.{AreOwners, owners_after}
 use Rattle.pybuf_world.proofs.Handles.{AreNamed, AreFirst, stay_named, stay_first, named_with_new, first_with_new}
 use Rattle.pybuf_world.proofs.Given.{HasAllOf, name_exporters, all_with_more, of_last, of_set, all_with_set}
-use Rattle.pybuf_world.proofs.Lists.{All-slice_get}
 
 pub empty_is_sound : IsSoundWorld empty_world
 empty_is_sound = record {
@@ -60,8 +60,8 @@ pub record IsWell (e : Exporter) : Type 0 where
 
 well_at : (w : World) (i : ℕ) (e : Exporter) → IsSoundWorld w → slice_get w.exporters i ≡ Some e → IsWell e
 well_at w i e sound at = record {
-  sound = All-slice_get IsSoundExporter w.exporters i e sound.exporters_are_sound at;
-  apart = All-slice_get IsSpaced w.exporters i e sound.items_lie_apart at;
+  sound = element_holds IsSoundExporter w.exporters i e sound.exporters_are_sound at;
+  apart = element_holds IsSpaced w.exporters i e sound.items_lie_apart at;
 }
 
 -- ---- a new exporter

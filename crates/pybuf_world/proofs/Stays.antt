@@ -3,6 +3,7 @@ use Rattle.std.proofs.Common.{◌≡◌, ℕ, ◌⊎◌, inl, inr, Bool, true, f
 use Rattle.std.specs.Prelude.{◌==◌, Option, Some, None, Result, Ok, Err, slice_get, if◌then◌else◌}
 use Rattle.std.proofs.lemmas.Bool.Decides.{eqb_tells}
 use Rattle.std.proofs.lemmas.Option.{slice_get_within}
+use Rattle.pybuf_lemmas.proofs.Lists.{get-left, element_after_set, element_holds}
 use Rattle.pybuf_value.specs.declared.faults.Fault.{Fault}
 use Rattle.pybuf_value.specs.declared.faults.Fault.TheVariants as fault
 use Rattle.pybuf_command.specs.declared.kinds.ExporterKind.{ExporterKind}
@@ -25,7 +26,7 @@ use Rattle.pybuf_command.specs.Handles.{handles_of_options}
 use Rattle.pybuf_world.specs.World.{World, bytes_of_new, world_with_bytes, are_given, loans_of, world_after, step_with_loans, target_of, step_of_handle, wstep}
 use Rattle.pybuf_world.specs.Sound.{IsSoundWorld}
 use Rattle.pybuf_world.specs.Laws.{EachExporterStays, WorldLengthsStay, WorldReadOnlyBytesStay, KeepsIterators, WorldIteratorsStay}
-use Rattle.pybuf_world.proofs.Lists.{slice_get-append, slice_get-set, slice_get-set_other, All-slice_get}
+use Rattle.pybuf_world.proofs.Lists.{slice_get-set_other}
 
 -- The relation holds between an exporter and itself, and between an exporter before and after each command.
 record IsKeptBySteps (Stays : Exporter → Exporter → Type 0) : Type 0 where
@@ -43,7 +44,7 @@ one_set Stays kept w j old new found stays i e (inl same) at =
     let here : slice_get w.exporters i ≡ Some old = ap (slice_get w.exporters) (sym same.1) ∙ found in
     let is : old ≡ e = cc in (
       new,
-      ap (slice_get (set w.exporters j new)) (sym same.1) ∙ slice_get-set w.exporters j old new found,
+      ap (slice_get (set w.exporters j new)) (sym same.1) ∙ element_after_set w.exporters j old new found,
       subst (λ (x : Exporter). Stays x new) is stays,
     )
 one_set Stays kept w j old new found stays i e (inr other) at =
@@ -54,7 +55,7 @@ set_or_more : (Stays : Exporter → Exporter → Type 0) → IsKeptBySteps Stays
     → EachExporterStays Stays w (world_after w t (new, r)).0
 set_or_more Stays kept w t old new (local.Fresh snap) found stays i e at =
     let one = one_set Stays kept w t.exporter old new found stays i e (eqb_tells t.exporter i) at in
-    (one.0, slice_get-append (set w.exporters t.exporter new) (_ ∷ []) i (slice_get_within (set w.exporters t.exporter new) i one.0 one.1) ∙ one.1, one.2)
+    (one.0, get-left (set w.exporters t.exporter new) (_ ∷ []) i (slice_get_within (set w.exporters t.exporter new) i one.0 one.1) ∙ one.1, one.2)
 set_or_more Stays kept w t old new (local.View k) found stays i e at = one_set Stays kept w t.exporter old new found stays i e (eqb_tells t.exporter i) at
 set_or_more Stays kept w t old new (local.Iter k) found stays i e at = one_set Stays kept w t.exporter old new found stays i e (eqb_tells t.exporter i) at
 set_or_more Stays kept w t old new local.Ok found stays i e at = one_set Stays kept w t.exporter old new found stays i e (eqb_tells t.exporter i) at
@@ -75,7 +76,7 @@ set_or_more Stays kept w t old new (local.Refused f) found stays i e at = one_se
 loans_stay : (Stays : Exporter → Exporter → Type 0) → IsKeptBySteps Stays → (w : World) (t : Target) (v : Verb) (loans : List (ℕ × Loan)) (o : Option Exporter) → slice_get w.exporters t.exporter ≡ o
     → IsSoundWorld w → EachExporterStays Stays w (step_with_loans w t v loans o).0
 loans_stay Stays kept w t v loans (Some old) found sound i e at =
-    let sound_old = All-slice_get IsSoundExporter w.exporters t.exporter old sound.exporters_are_sound found in
+    let sound_old = element_holds IsSoundExporter w.exporters t.exporter old sound.exporters_are_sound found in
     set_or_more Stays kept w t old (estep old t.subject v loans).0 (estep old t.subject v loans).1 found (kept.step old t.subject v loans sound_old) i e at
 loans_stay Stays kept w t v loans None found sound i e at = (e, at, kept.same e)
 
@@ -86,7 +87,7 @@ handle_stays Stays kept w handle v None sound i e at = (e, at, kept.same e)
 
 bytes_stay : (Stays : Exporter → Exporter → Type 0) → IsKeptBySteps Stays → (w : World) (k : ExporterKind) (r : Result (List ℕ) Fault) → EachExporterStays Stays w (world_with_bytes w k r).0
 bytes_stay Stays kept w k (Ok bytes) i e at =
-    (e, slice_get-append w.exporters (_ ∷ []) i (slice_get_within w.exporters i e at) ∙ at, kept.same e)
+    (e, get-left w.exporters (_ ∷ []) i (slice_get_within w.exporters i e at) ∙ at, kept.same e)
 bytes_stay Stays kept w k (Err f) i e at = (e, at, kept.same e)
 
 given_stays : (Stays : Exporter → Exporter → Type 0) → IsKeptBySteps Stays → (w : World) (given : Bool) (k : ExporterKind) (r : Result (List ℕ) Fault)

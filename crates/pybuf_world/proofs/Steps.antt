@@ -2,6 +2,7 @@
 use Rattle.std.proofs.Common.{◌≡◌, ℕ, List, [], ◌∷◌, ◌++◌, length, Bool, true, false, true≢false, set, ap, ap₂, sym, ◌∙◌, refl, subst}
 use Rattle.std.specs.Prelude.{Option, Some, None, Result, Ok, Err, OnErr, slice_get}
 use Rattle.std.proofs.lemmas.List.{length-set}
+use Rattle.pybuf_lemmas.proofs.Lists.{element_after_set, set_to_itself}
 use Rattle.pybuf_value.specs.declared.faults.Fault.TheVariants as fault
 use Rattle.pybuf_value.specs.declared.snaps.Snap.{Snap}
 use Rattle.pybuf_command.specs.declared.kinds.Subject.{Subject}
@@ -19,7 +20,6 @@ use Rattle.pybuf_command.specs.declared.worlds.Reply.{Reply}
 use Rattle.pybuf_world.specs.World.{World, has_view, handles_with_copy, reply_with_copy, loans_of, world_after, step_with_loans}
 use Rattle.pybuf_world.specs.Stepping.{local_step}
 use Rattle.pybuf_world.specs.Tables.{owners_after, IsCopyAt, IsFresh, IfFresh, with_made, with_copy, answered}
-use Rattle.pybuf_world.proofs.Lists.{slice_get-set, set-slice_get}
 
 -- ---- replies
 
@@ -29,7 +29,7 @@ fresh_answered : (w : World) (t : Target) (old new : Exporter) (snap : Snap) →
 fresh_answered w t old new snap found =
     let made : List Exporter = set w.exporters t.exporter new ++ made_of (is_readonly_subject new t.subject) snap ∷ [] in
     ap (λ (n : ℕ). (record { exporters = made; handles = handles_with_copy (has_view snap.kind) n w.handles }, reply_with_copy (has_view snap.kind) (length w.handles))) (sym (length-set w.exporters t.exporter new))
-    ∙ ap (λ (o : Option Exporter). with_copy (record w { exporters = set w.exporters t.exporter new }) o t.subject snap) (sym (slice_get-set w.exporters t.exporter old new found))
+    ∙ ap (λ (o : Option Exporter). with_copy (record w { exporters = set w.exporters t.exporter new }) o t.subject snap) (sym (element_after_set w.exporters t.exporter old new found))
 
 reply_answered : (w : World) (t : Target) (old new : Exporter) (r : LocalReply) → slice_get w.exporters t.exporter ≡ Some old → world_after w t (new, r) ≡ answered (record w { exporters = set w.exporters t.exporter new }) t r
 reply_answered w t old new (local.Fresh snap) found = fresh_answered w t old new snap found
@@ -68,7 +68,7 @@ fresh_copy : FreshRepliesAreCopies → (w : World) (t : Target) (v : Verb) (loan
     → local_step w t v loans o ≡ (after, local.Fresh snap) → (after ≡ w) × (IsCopyAt o t.subject snap)
 fresh_copy copies w t v loans (Some e) after snap found is =
     let copied = copies e t.subject v loans snap (ap (λ (p : World × LocalReply). p.1) is) in
-    (sym (ap (λ (p : World × LocalReply). p.0) is) ∙ ap (λ (es : List Exporter). record w { exporters = es }) (ap (set w.exporters t.exporter) copied.0 ∙ set-slice_get w.exporters t.exporter e found), copied.1)
+    (sym (ap (λ (p : World × LocalReply). p.0) is) ∙ ap (λ (es : List Exporter). record w { exporters = es }) (ap (set w.exporters t.exporter) copied.0 ∙ set_to_itself w.exporters t.exporter e found), copied.1)
 fresh_copy copies w t v loans None after snap found is =
     let other : is_fresh (local.Refused fault.UnknownName) ≡ is_fresh (local.Fresh snap) = ap (λ (p : World × LocalReply). is_fresh p.1) is in
     absurd (true≢false (sym other))

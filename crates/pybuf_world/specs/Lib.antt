@@ -10,3 +10,4 @@ pub mod Hashing
 pub mod Sharing
 pub mod Naming
 pub mod Releasing
+pub mod Facts

@@ -1,9 +1,10 @@
 use Rattle.std.proofs.Common.{◌∙◌}
-use Rattle.golden_picture.proofs.SizeLemmas.{sized, on_ok}
+use Rattle.pybuf_lemmas.proofs.Results.{if_ok_follows}
+use Rattle.golden_picture.proofs.SizeLemmas.{sized}
 use Rattle.golden_picture.proofs.sizes.cropped.Goals as goal
 
 pub returns : goal.returns
 returns c =
-    on_ok c.crop.result _ _
+    if_ok_follows c.crop.result _ _
     (λ k made. sized c.args.picture.now _ made.0 k _ _ _ made.2 (made.1.rows) (made.1.columns) (made.1.channels ∙ c.requires.deep))
     c.crop.ensures.ok

@@ -1,6 +1,7 @@
 use Rattle.std.specs.Prelude.{vec_len, vec_capacity, length}
+use Rattle.pybuf_desc.specs.Facts.{fewer_ranges}
 use Rattle.pybuf_desc.specs.SegmentLines.{ranges_of_line}
-use Rattle.pybuf_buffer.proofs.Appended.{first_fits, others_fit, first_inside, others_inside, appended, steps_more, fewer_ranges}
+use Rattle.pybuf_buffer.proofs.Appended.{first_fits, others_fit, first_inside, others_inside, appended, steps_more}
 use Rattle.pybuf_buffer.proofs.append.append_ranges.Goals as goal
 
 pub append_line-requires-clause-inside : goal.append_line-requires-clause-inside

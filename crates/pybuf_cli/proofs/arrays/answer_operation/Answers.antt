@@ -1,10 +1,10 @@
-use Rattle.pybuf_cli.proofs.Outcomes.{follows_on_ok}
+use Rattle.pybuf_lemmas.proofs.Results.{on_ok_follows}
 use Rattle.pybuf_cli.proofs.ArrayRunning.{carried_out}
 use Rattle.pybuf_cli.proofs.arrays.answer_operation.Goals as goal
 
 pub returns-in-Ok : goal.returns-in-Ok
 returns-in-Ok c =
-    follows_on_ok c.push_array_reply_line.result
+    on_ok_follows c.push_array_reply_line.result
     (carried_out c.args.array.now c.step.new.self c.args.operation.now c.in-Ok.reply c.args.text.now.items c.push_array_reply_line.new.out.items
     c.in-Ok.ensures.ok)
     c.push_array_reply_line.ensures

@@ -2,7 +2,8 @@ use Rattle.std.proofs.Common.{◌≡◌, [], length, arith}
 use Rattle.std.proofs.lemmas.Grind.{common_steps}
 use Rattle.std.proofs.lemmas.List.{nil_from_length}
 use Rattle.std.proofs.lemmas.Result.{on_err_weaker}
-use Rattle.pybuf_cli.proofs.Outcomes.{on_err, follows_on_ok}
+use Rattle.pybuf_lemmas.proofs.Results.{on_ok_follows}
+use Rattle.pybuf_cli.proofs.Outcomes.{on_err}
 use Rattle.pybuf_cli.proofs.Tabling.{tabling_stops_before, tabling_stops_behind, tabling_goes_on, tabling_ends}
 use Rattle.pybuf_cli.proofs.tables.put_listing.Goals as goal
 
@@ -31,7 +32,7 @@ pub returns-clause-all : goal.returns-clause-all
 returns-clause-all g c =
     let nothing : length c.tabling.rest.now ≡ 0 = grind (arith, common_steps) in
     let none : c.tabling.rest.now ≡ [] = nil_from_length c.tabling.rest.now nothing in
-    follows_on_ok c.write_all.result
+    on_ok_follows c.write_all.result
     (λ put. tabling_ends c.args.listing.now c.args.input.now c.tabling.rest.now _ _ _ c.tabling.text.items c.as_slice-2.result.now
     c.tabling.invariant.lines none c.as_slice-2.ensures.value put)
     c.write_all.ensures.all

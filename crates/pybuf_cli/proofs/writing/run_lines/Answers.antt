@@ -1,6 +1,7 @@
 use Rattle.std.proofs.Common.{◌++◌, arith}
-use Rattle.pybuf_cli.proofs.Outcomes.{on_err, follows_on_ok}
+use Rattle.pybuf_cli.proofs.Outcomes.{on_err}
 use Rattle.std.proofs.lemmas.Result.{on_err_weaker}
+use Rattle.pybuf_lemmas.proofs.Results.{on_ok_follows}
 use Rattle.pybuf_cli.proofs.Running.{spelled_first, answered_behind, goes_on, stops_before, stops_behind, ends_put, stops_at_end}
 use Rattle.pybuf_cli.proofs.writing.run_lines.Goals as goal
 
@@ -37,7 +38,7 @@ running-preserved g c = record {
 
 pub returns-clause-all : goal.returns-clause-all
 returns-clause-all g c =
-    follows_on_ok c.write_all.result
+    on_ok_follows c.write_all.result
     (λ put. ends_put c.args.input.now c.running.rest.now c.running.world _ _ _ c.running.text.items c.as_slice-2.result.now
     c.running.invariant.lines c.in_default.ensures c.as_slice-2.ensures.value put)
     c.write_all.ensures.all

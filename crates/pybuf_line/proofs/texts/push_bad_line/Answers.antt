@@ -1,5 +1,5 @@
 use Rattle.std.proofs.Common.{codes, decimal}
-use Rattle.pybuf_line.proofs.Joined.{three_parts}
+use Rattle.pybuf_lemmas.proofs.Lists.{three_parts}
 use Rattle.pybuf_line.proofs.texts.push_bad_line.Goals as goal
 
 pub returns : goal.returns

@@ -1,5 +1,6 @@
+use Rattle.pybuf_desc.specs.Facts.{first_inside, fewer_ranges}
 use Rattle.pybuf_desc.specs.SegmentLines.{ranges_of_line}
-use Rattle.pybuf_memoryview.proofs.Gathered.{first_inside, others_inside, gather_step, fewer_ranges}
+use Rattle.pybuf_memoryview.proofs.Gathered.{others_inside, gather_step}
 use Rattle.pybuf_memoryview.proofs.content.gather.Goals as goal
 
 pub push_line-requires-clause-inside : goal.push_line-requires-clause-inside

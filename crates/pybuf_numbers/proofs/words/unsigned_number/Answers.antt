@@ -1,6 +1,7 @@
 use Rattle.std.proofs.Common.{◌≡◌, sym, ap, ◌∙◌, length, arith}
+use Rattle.pybuf_lemmas.proofs.Lists.{eight_items}
+use Rattle.pybuf_struct.specs.Facts.{low_first_eight}
 use Rattle.pybuf_struct.specs.Digits.{little_endian}
-use Rattle.pybuf_numbers.proofs.EightItems.{low_first_eight, eight_items}
 use Rattle.pybuf_numbers.proofs.words.unsigned_number.Goals as goal
 
 pub returns-in-len8 : goal.returns-in-len8

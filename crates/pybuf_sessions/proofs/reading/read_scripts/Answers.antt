@@ -1,6 +1,7 @@
 use Rattle.std.proofs.Common.{◌+◌, refl, arith}
+use Rattle.pybuf_line.specs.Facts.{few_lines}
 use Rattle.pybuf_line.specs.Lines.{lines}
-use Rattle.pybuf_sessions.proofs.Lines.{one_asked, few_lines, counted}
+use Rattle.pybuf_sessions.proofs.Lines.{one_asked, counted}
 use Rattle.pybuf_sessions.proofs.reading.read_scripts.Goals as goal
 
 pub overflow_add-number : goal.overflow_add-number

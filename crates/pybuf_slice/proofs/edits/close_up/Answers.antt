@@ -4,11 +4,12 @@ use Rattle.std.specs.Prelude.{FitsSigned, reverse}
 use Rattle.std.proofs.lemmas.Int.{to_z-of_z}
 use Rattle.std.specs.Int.{w64}
 use Rattle.std.proofs.lemmas.List.Elements.{All-same}
+use Rattle.pybuf_slice.specs.Facts.{has_reverse}
 use Rattle.pybuf_index.specs.Parts.{picks_of}
 use Rattle.pybuf_index.specs.Runs.{picks_in_span}
 use Rattle.pybuf_slice.specs.Edits.{elements_off}
 use Rattle.pybuf_slice.proofs.ReadLemmas.{one_from_bits, less_one_from_bits}
-use Rattle.pybuf_slice.proofs.EditLemmas.{off_range, off_same, has_reverse, all_reverse}
+use Rattle.pybuf_slice.proofs.EditLemmas.{off_range, off_same, all_reverse}
 use Rattle.pybuf_slice.proofs.edits.close_up.Goals as goal
 use Rattle.pybuf_slice.proofs.edits.close_up.Goals.{then-step-eq1-via-then-step-eq1, then-step-eq1-via-else-step-eq1+then-step}
 

@@ -1,7 +1,8 @@
 -- Each place is on the index list, or its element moves down behind those that stay.
 use Rattle.std.proofs.Common.{◌≡◌, ◌≢◌, ◌+◌, ◌<◌, ◌≤◌, suc, ◌∷◌, length, take, drop, refl, ap, sym, ◌∙◌, arith, false}
+use Rattle.pybuf_slice.specs.Facts.{has_head, has_other}
 use Rattle.pybuf_slice.specs.Edits.{has}
-use Rattle.pybuf_slice.proofs.EditLemmas.{has_head, has_other, has_below, rising_lower, rising_from, off_deleted, off_ended, off_starts, stays_by_swap, swap_drop, length_swap, drop_more}
+use Rattle.pybuf_slice.proofs.EditLemmas.{has_below, rising_lower, rising_from, off_deleted, off_ended, off_starts, stays_by_swap, swap_drop, length_swap, drop_more}
 use Rattle.pybuf_slice.proofs.edits.close_up_indexes.Goals as goal
 use Rattle.pybuf_slice.proofs.edits.close_up_indexes.Goals.{then-place-next, else-place-next}
 

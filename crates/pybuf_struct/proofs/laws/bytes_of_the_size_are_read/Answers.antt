@@ -1,4 +1,4 @@
-use Rattle.pybuf_struct.proofs.RoundTrips.{unpacked_at}
+use Rattle.pybuf_struct.specs.Facts.{unpacked_at}
 use Rattle.pybuf_struct.proofs.laws.bytes_of_the_size_are_read.Goals as goal
 
 pub returns : goal.returns

@@ -1,7 +1,8 @@
 use Rattle.std.proofs.Common.{◌≡◌, ◌+◌, subst, arith}
+use Rattle.pybuf_struct.specs.Facts.{ok_or_some}
 use Rattle.pybuf_struct.specs.Formats.{extent, fields, prefix_of, format_after_prefix}
 use Rattle.pybuf_struct.specs.Laws.{Spread}
-use Rattle.pybuf_struct.proofs.Whole.{format_fills, ok_or_some}
+use Rattle.pybuf_struct.proofs.Whole.{format_fills}
 use Rattle.pybuf_struct.proofs.Places.{Spread-fields}
 use Rattle.pybuf_struct.proofs.Aligned.{spelled_aligned}
 use Rattle.pybuf_struct.proofs.laws.fields_lie_in_order.Goals as goal

@@ -1,6 +1,7 @@
 use Rattle.std.proofs.Common.{◌≡◌, sym, ap, ◌∙◌, length, arith}
+use Rattle.pybuf_lemmas.proofs.Lists.{eight_items}
+use Rattle.pybuf_struct.specs.Facts.{high_first_eight, low_first_eight}
 use Rattle.pybuf_struct.specs.Digits.{little_endian, big_endian}
-use Rattle.pybuf_table.proofs.Words.{high_first_eight, low_first_eight, eight_items}
 use Rattle.pybuf_table.proofs.numbers.unsigned_number.Goals as goal
 
 pub returns-then-big-3 : goal.returns-then-big-3

@@ -1,9 +1,10 @@
 use Rattle.std.proofs.Common.{List, ℕ, length, ap, ◌∙◌}
 use Rattle.std.specs.List.{flat_map}
+use Rattle.pybuf_strided.specs.Facts.{row_inside}
 use Rattle.pybuf_desc.specs.Segments.{bytes_of}
 use Rattle.pybuf_desc.specs.SegmentLines.{ranges_of_line}
 use Rattle.pybuf_verbs_writes.specs.LaidBytes.{put_at}
-use Rattle.pybuf_verbs_writes.proofs.LineCopies.{row_inside, row_pieces}
+use Rattle.pybuf_verbs_writes.proofs.LineCopies.{row_pieces}
 use Rattle.pybuf_verbs_writes.proofs.laid.lay_line.Goals as goal
 
 pub copy_line-requires-clause-source_inside : goal.copy_line-requires-clause-source_inside

@@ -1,6 +1,7 @@
+use Rattle.pybuf_desc.specs.Facts.{first_inside}
 use Rattle.pybuf_desc.specs.SegmentLines.{ranges_of_line}
 use Rattle.pybuf_verbs_writes.proofs.Pairs.{firsts, seconds}
-use Rattle.pybuf_verbs_writes.proofs.LineCopies.{first_inside, firsts_split, seconds_split, as_wide, pairs_laid, fewer_pairs}
+use Rattle.pybuf_verbs_writes.proofs.LineCopies.{firsts_split, seconds_split, as_wide, pairs_laid, fewer_pairs}
 use Rattle.pybuf_verbs_writes.proofs.laid.lay_pairs.Goals as goal
 
 pub copy_between-requires : goal.copy_between-requires

@@ -1,6 +1,7 @@
 use Rattle.std.proofs.Common.{arith}
+use Rattle.pybuf_desc.specs.Facts.{first_inside, fewer_ranges}
 use Rattle.pybuf_desc.specs.SegmentLines.{ranges_of_line}
-use Rattle.pybuf_verbs_writes.proofs.LineCopies.{first_inside, others_inside, bytes_counted, line_laid, fewer_ranges}
+use Rattle.pybuf_verbs_writes.proofs.LineCopies.{others_inside, bytes_counted, line_laid}
 use Rattle.pybuf_verbs_writes.proofs.laid.lay_ranges.Goals as goal
 
 pub lay_line-from-requires-clause-inside : goal.lay_line-from-requires-clause-inside

@@ -2,18 +2,19 @@ use Rattle.std.proofs.Common.{◌≡◌, ℕ, ◌+◌, List, ◌++◌, length, t
 use Rattle.std.specs.Prelude.{pos}
 use Rattle.std.specs.List.{flat_map}
 use Rattle.std.specs.declared.ops.Range.{Range}
+use Rattle.pybuf_desc.specs.Facts.{forward_ranges}
 use Rattle.pybuf_desc.specs.Items.{content_of_layout}
 use Rattle.pybuf_desc.specs.Segments.{bytes_in, ranges_of, joined_count}
 use Rattle.pybuf_state.specs.Live.{is_live, layout_of}
 use Rattle.pybuf_buffer.specs.Appending.{range_count}
 use Rattle.pybuf_buffer.proofs.Live.{is_live_layout}
-use Rattle.pybuf_buffer.proofs.Ranges.{ranges_in_order, ranges_are_counted}
+use Rattle.pybuf_buffer.proofs.Ranges.{ranges_are_counted}
 use Rattle.pybuf_buffer.proofs.Appended.{AreInOrder, EndInside, walk_long}
 use Rattle.pybuf_buffer.proofs.buffer.PyBuffer.append_to.Goals as goal
 
 pub append_ranges-requires-clause-order : goal.append_ranges-requires-clause-order
 append_ranges-requires-clause-order g c =
-    subst AreInOrder (sym c.segments.ensures.ranges) (ranges_in_order c.described-start.result.0.now (pos c.described-start.result.1) (joined_count c.described-start.result.0.now true))
+    subst AreInOrder (sym c.segments.ensures.ranges) (forward_ranges c.described-start.result.0.now (pos c.described-start.result.1) (joined_count c.described-start.result.0.now true))
 
 pub append_ranges-requires-clause-inside : goal.append_ranges-requires-clause-inside
 append_ranges-requires-clause-inside g c =

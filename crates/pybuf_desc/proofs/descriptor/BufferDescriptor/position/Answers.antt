@@ -1,11 +1,12 @@
 use Rattle.std.proofs.Common.{◌≡◌, ℤ, ℕ, pos, Ok, Err, slice_get, get_or, length, rules, SFits, w64, ◌∙◌, sym, ap, subst}
 use Rattle.std.proofs.lemmas.Int.{to_z-of_z}
+use Rattle.pybuf_index.specs.Facts.{entry_below}
 use Rattle.pybuf_index.specs.Places.{entry_in}
 use Rattle.pybuf_desc.specs.Positions.{position_of}
 use Rattle.pybuf_desc.proofs.Indices.{position_from-0}
 use Rattle.pybuf_desc.proofs.Moves.{moves, index_fits}
 use Rattle.pybuf_desc.proofs.Track.{Track, track_from_valid}
-use Rattle.pybuf_desc.proofs.FromTheEnd.{index_below, position_more, position_refused, position_end, position_of_none, position_is_place, first_dim, AreNonzero-from_later}
+use Rattle.pybuf_desc.proofs.FromTheEnd.{position_more, position_refused, position_end, position_of_none, position_is_place, first_dim, AreNonzero-from_later}
 use Rattle.pybuf_desc.proofs.descriptor.BufferDescriptor.position.Goals as goal
 
 pub returns-then-first-eq0-clause-sum : goal.returns-then-first-eq0-clause-sum
@@ -35,24 +36,24 @@ returns-in_err-index-clause-sum c =
 
 pub overflow_cast-offset : goal.overflow_cast-offset
 overflow_cast-offset c =
-    index_fits c.dim_desc-dims.result.now c.loop-k.k _ c.in_ok-index.index c.loop-k-test.true (index_below _ _ _ (sym c.in_ok-index.ensures)) c.loop-k.invariant.0
+    index_fits c.dim_desc-dims.result.now c.loop-k.k _ c.in_ok-index.index c.loop-k-test.true (entry_below _ _ _ (sym c.in_ok-index.ensures)) c.loop-k.invariant.0
 
 pub overflow_mul-offset : goal.overflow_mul-offset
 overflow_mul-offset c =
     let f : SFits w64 (get_or c.dim_desc-dims.result.now c.loop-k.k (0, pos 0, pos 0)).1 = search rules in
-    (moves c.dim_desc-dims.result.now c.loop-k.k _ c.in_ok-index.index c.loop-k-test.true f (index_below _ _ _ (sym c.in_ok-index.ensures)) c.loop-k.invariant.0).product_fits
+    (moves c.dim_desc-dims.result.now c.loop-k.k _ c.in_ok-index.index c.loop-k-test.true f (entry_below _ _ _ (sym c.in_ok-index.ensures)) c.loop-k.invariant.0).product_fits
 
 pub overflow_add-offset : goal.overflow_add-offset
 overflow_add-offset c =
     let f : SFits w64 (get_or c.dim_desc-dims.result.now c.loop-k.k (0, pos 0, pos 0)).1 = search rules in
-    (moves c.dim_desc-dims.result.now c.loop-k.k _ c.in_ok-index.index c.loop-k-test.true f (index_below _ _ _ (sym c.in_ok-index.ensures)) c.loop-k.invariant.0).sum_fits
+    (moves c.dim_desc-dims.result.now c.loop-k.k _ c.in_ok-index.index c.loop-k-test.true f (entry_below _ _ _ (sym c.in_ok-index.ensures)) c.loop-k.invariant.0).sum_fits
 
 pub loop-k-preserved : goal.loop-k-preserved
 loop-k-preserved c =
     let f : SFits w64 (get_or c.dim_desc-dims.result.now c.loop-k.k (0, pos 0, pos 0)).1 = search rules in
     let z : SFits w64 (get_or c.args.indices.now c.loop-k.k (pos 0)) = search rules in
     let w : entry_in (get_or c.dim_desc-dims.result.now c.loop-k.k (0, pos 0, pos 0)).0 (get_or c.args.indices.now c.loop-k.k (pos 0)) ≡ Ok c.in_ok-index.index = simp to_z-of_z at (sym c.in_ok-index.ensures) in
-    let m = moves c.dim_desc-dims.result.now c.loop-k.k _ c.in_ok-index.index c.loop-k-test.true f (index_below _ _ _ (sym c.in_ok-index.ensures)) c.loop-k.invariant.0 in (
+    let m = moves c.dim_desc-dims.result.now c.loop-k.k _ c.in_ok-index.index c.loop-k-test.true f (entry_below _ _ _ (sym c.in_ok-index.ensures)) c.loop-k.invariant.0 in (
       m.track,
       position_more c.args.indices.now c.dim_desc-dims.result.now c.loop-k.k c.in_ok-index.index _ _ _
           (c.requires.one_each ∙ ap (λ ds. length ds) (sym c.dim_desc-dims.ensures)) c.loop-k-test.true w m.result_is c.loop-k.invariant.1,

@@ -3,7 +3,8 @@ use Rattle.std.proofs.Common.{◌≡◌, pos, ap, ◌∙◌}
 use Rattle.std.specs.Int.{w64}
 use Rattle.std.specs.Prelude.{int_lt, nat_abs}
 use Rattle.std.proofs.lemmas.Int.{to_z-of_z}
-use Rattle.pybuf_index.proofs.SpanLemmas.{run_of_span, run_fits, is_negative-lt}
+use Rattle.pybuf_index.specs.Facts.{negative_is}
+use Rattle.pybuf_index.proofs.SpanLemmas.{run_of_span, run_fits}
 use Rattle.pybuf_index.proofs.iter.SaturatedSliceIter.from_adjust_indices.Goals as goal
 
 pub lowest-low-requires-clause-fits : goal.lowest-low-requires-clause-fits
@@ -18,4 +19,4 @@ returns c =
     c.requires.moves c.requires.count
     c.lowest-low.ensures.least
     (c.unsigned_abs-stride.ensures.value ∙ ap nat_abs same)
-    (ap (λ z. int_lt z (pos 0)) same ∙ is_negative-lt c.args.step)
+    (ap (λ z. int_lt z (pos 0)) same ∙ negative_is c.args.step)

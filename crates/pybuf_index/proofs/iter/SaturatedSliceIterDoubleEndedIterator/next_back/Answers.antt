@@ -1,6 +1,7 @@
 -- The last of a rising run is its greatest number.
 use Rattle.std.proofs.Common.{◌-◌, ◌∙◌, sym, length, ap, arith}
-use Rattle.pybuf_index.proofs.SpanLemmas.{run_top_last, length-run}
+use Rattle.pybuf_index.specs.Facts.{run_length}
+use Rattle.pybuf_index.proofs.SpanLemmas.{run_top_last}
 use Rattle.pybuf_index.proofs.iter.SaturatedSliceIterDoubleEndedIterator.next_back.Goals as goal
 
 pub returns-then-not-self-clause-steps : goal.returns-then-not-self-clause-steps
@@ -9,6 +10,6 @@ returns-then-not-self-clause-steps c =
 
 pub returns-then-not-self-clause-goes : goal.returns-then-not-self-clause-goes
 returns-then-not-self-clause-goes c =
-    let before = length-run c.self.inside.falls c.self.inside.low c.self.inside.stride c.self.inside.left in
-    let after = length-run c.self.inside.falls c.self.inside.low c.self.inside.stride (c.self.inside.left - 1) in
+    let before = run_length c.self.inside.falls c.self.inside.low c.self.inside.stride c.self.inside.left in
+    let after = run_length c.self.inside.falls c.self.inside.low c.self.inside.stride (c.self.inside.left - 1) in
     record { on = λ _. (tt, tt, omega (arith, before, after, ap length c.self.view_is, c.if-self-eq0.false)); keeps = tt; rests = λ _. tt }
