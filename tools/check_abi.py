@@ -78,7 +78,7 @@ def main(words):
         STORED.write_text("".join(line + "\n" for line in new))
         return 0
     faults = [f"the header no longer has: {line}" for line in old if line not in new]
-    faults += [f"not stored, so run tools/check_abi.py --write: {line}" for line in new if line not in old]
+    faults += [f"this line is not stored, so run tools/check_abi.py --write: {line}" for line in new if line not in old]
     passed = 0 if faults else 1
     for library in words:
         try:
@@ -89,7 +89,7 @@ def main(words):
         here = [f"{library} lacks {name}" for name in functions(old) if name not in names]
         here += [f"{library} exports {name}, which the header doesn't declare" for name in names if name not in functions(old)]
         if f"soname {soname}" not in old:
-            here.append(f"{library} has the name {soname}")
+            here.append(f"the name that {library} has is {soname}, and another one is stored")
         passed, faults = passed + (0 if here else 1), faults + here
     for fault in faults:
         print(f"check_abi: {fault}")

@@ -126,7 +126,7 @@ def check_blocks(document, lines, kept):
             if ending not in kept:
                 kept[ending] = sources(ending)
             if not any(stands_in(block, source) for source in kept[ending]):
-                report(document, start, f"the block stands in no source with the ending {ending}")
+                report(document, start, f"no source with the ending {ending} has this block")
         start = None
     check_changes(document, changes)
 
@@ -139,7 +139,7 @@ def check_edits(document, lines):
         if block.startswith("file: ") and block not in edits:
             old = re.search(r"^old: (.*)$", block, re.MULTILINE)
             if old is None or not any(old[1] in line for line in put):
-                report(document, 1, f"no must-fail edit is this, and no change puts its line in: {block.splitlines()[1]}")
+                report(document, 1, f"this is no must-fail edit, and no change puts its line in: {block.splitlines()[1]}")
 
 
 def outputs():

@@ -159,7 +159,7 @@ def fault_of(program, lines, written, whole=True):
         replay.entry(found[2], found[3], session)
     left = sum(len(it.script) - it.asked for it in sessions)
     if behind and (left or behind[0] != b"calls %d" % len(entries)):
-        return f"{behind[0]!r} is written of {len(entries)} entries, and {left} lines are left"
+        return f"{behind[0]!r} stands behind {len(entries)} entries, and {left} lines are left"
     if len(behind) > 1:
         if not behind[1].startswith(b"bytes "):
             return f"{behind[1]!r} is the last line"
@@ -169,7 +169,7 @@ def fault_of(program, lines, written, whole=True):
         return fault
     for line, wanted, reply in zip(replay.lines, replay.replies, replies):
         if wanted != reply:
-            return f"{line!r} of one thread is replied {reply!r}, and of `share` came {wanted!r}"
+            return f"one thread gets {reply!r} to {line!r}, and `share` wrote {wanted!r}"
     if len(replies) != len(replay.lines):
         return f"one thread wrote {len(replies)} replies to {len(replay.lines)} lines"
     return None

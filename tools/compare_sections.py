@@ -112,11 +112,11 @@ def main(words):
         came = (READER / "stdout").read_text().split("\n")[:-1] if stored else printed(path)
         if wanted != came:
             differing += 1
-            print(f"{path}: example_elf prints otherwise than readelf")
+            print(f"{path}: example_elf and readelf print different lines")
             for line in sorted({*wanted} ^ {*came}):
                 print(f"    {'readelf' if line in wanted else 'example_elf'}: {line}")
         else:
-            print(f"{path}: {len(wanted)} lines are those of readelf")
+            print(f"{path}: all {len(wanted)} lines are as readelf has them")
     print(f"{len(files) - differing} passed, {differing} failed" + (f", {left} skipped" if left else ""))
     return 1 if differing else 0
 

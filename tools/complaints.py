@@ -66,17 +66,17 @@ def told_of_data(words, given):
 def fault_of(status, words, given, written, told):
     """What is wrong with what came on standard error, as a text, or None."""
     if status == 0:
-        return None if told == b"" else f"on standard error nothing has to come, and came {told!r}"
+        return None if told == b"" else f"standard error has to be empty, and it has {told!r}"
     if status in FIXED:
-        return None if told == FIXED[status] else f"on standard error has to come {FIXED[status]!r}, and came {told!r}"
+        return None if told == FIXED[status] else f"standard error has to have {FIXED[status]!r}, and it has {told!r}"
     if status == USAGE:
         first, _, forms = told.partition(b"\n")
         is_so = first.startswith(b"pybuf: ") and len(first) > len(b"pybuf: ") and forms == FORMS
-        return None if is_so else f"on standard error has to come what is wrong with the words and all forms, and came {told!r}"
+        return None if is_so else f"standard error has to say what is wrong with the words and list all forms, and it has {told!r}"
     if status == BAD_LINE:
         fault = fault_of_line(given, written, told)
-        return fault and f"on standard error came {told!r}, and {fault}"
+        return fault and f"standard error has {told!r}, and {fault}"
     if status == BAD_DATA:
         wanted = told_of_data(list(words), given)
-        return None if told == wanted else f"on standard error has to come {wanted!r}, and came {told!r}"
+        return None if told == wanted else f"standard error has to have {wanted!r}, and it has {told!r}"
     return None

@@ -160,10 +160,10 @@ def origin(said):
     """Whether the figures are those of a run from nothing."""
     kept = next((PART.search(line) for line in said if PART.search(line)), None)
     if kept:
-        return f"NOT from nothing: done in this run were {kept[1]}, and the others were kept, so these figures are none of a whole gate"
+        return f"NOT from nothing: this run did {kept[1]}, and the others were kept, so these figures aren't those of a whole gate"
     if any(WHOLE in line for line in said):
         return "from nothing: every proof and every edit was done in this run"
-    return "whether from nothing is not known: the command said nothing of what was kept (a kit that keeps nothing doesn't)"
+    return "it isn't known whether this was from nothing: the command didn't say what was kept (a kit that keeps nothing doesn't say it)"
 
 
 def reaped(pid):

@@ -127,7 +127,7 @@ def fault_of_shared(program, given, ended):
     if ended.status not in (DONE, NO_MEMORY):
         return f"it ended with status {ended.status}"
     if ended.complaint != (NO_MEMORY_LINE if ended.status else b""):
-        return f"on standard error came {ended.complaint!r}"
+        return f"standard error has {ended.complaint!r}"
     if ended.written and not ended.written.endswith(b"\n"):
         return f"the last line of {ended.written!r} is not whole"
     return check_sessions.fault_of(program, lines_of(given), lines_of(ended.written), ended.status == DONE)
@@ -140,9 +140,9 @@ def fault_of(ended, whole):
     if ended.status != NO_MEMORY:
         return f"it ended with status {ended.status}"
     if ended.complaint != NO_MEMORY_LINE:
-        return f"on standard error came {ended.complaint!r}"
+        return f"standard error has {ended.complaint!r}"
     if not whole.startswith(ended.written):
-        return f"{ended.written!r} is no front of what is due"
+        return f"{ended.written!r} isn't the beginning of what is due"
     if ended.written and not ended.written.endswith(b"\n"):
         return f"the last reply of {ended.written!r} is not whole"
     return None
@@ -192,7 +192,7 @@ def refused_of_case(program, library, folder, name, behind):
     told = ", ".join(f"{count} times {lines}" for lines, count in sorted(fronts.items()))
     which = "all from one on" if behind else "one at a time"
     print(
-        f"{name}, {which}: {number - 1} growths refused, {statuses[NO_MEMORY]} ended for want of memory, "
+        f"{name}, {which}: {number - 1} growths refused, {statuses[NO_MEMORY]} runs ended since memory ran out, "
         f"{statuses[DONE]} with the whole output; replies that were put first: {told}",
         flush=True,
     )
@@ -227,7 +227,7 @@ def refused_by_try(last):
             if fault:
                 faults.append(f"{name}, growth {number}: {fault}")
             print(f"{name}, growth {number}: status {ended.returncode}, {ended.stdout.count(10)} replies", flush=True)
-    print(f"{sum(statuses.values())} runs: {statuses[NO_MEMORY]} ended for want of memory, {statuses[DONE]} well")
+    print(f"{sum(statuses.values())} runs: {statuses[NO_MEMORY]} ended since memory ran out, and {statuses[DONE]} ended well")
     return faults
 
 
@@ -289,7 +289,7 @@ def fault_of_mutated(program, lines, number, words=()):
             fault = f"{count} lines were written for {len(lines)} commands"
     elif ended.status == BAD_LINE:
         if ended.written != b"line %d is not a command\n" % number:
-            fault = f"{ended.written!r} came, and line {number} was changed"
+            fault = f"the output is {ended.written!r}, and line {number} was changed"
     else:
         fault = f"it ended with status {ended.status}"
     given = b"".join(line + b"\n" for line in lines)
@@ -304,7 +304,7 @@ def fault_of_mutated_sessions(program, lines, number):
         fault = None
         if ended.status == BAD_LINE:
             if ended.written != b"line %d is not a command\n" % number:
-                fault = f"{ended.written!r} came, and line {number} was changed"
+                fault = f"the output is {ended.written!r}, and line {number} was changed"
             given = b"".join(line + b"\n" for line in lines)
             fault = fault or complaints.fault_of(ended.status, [b"share"], given, ended.written, ended.complaint)
         elif ended.status == DONE:
@@ -327,8 +327,8 @@ def mutated(program, count, seed):
         results = list(pool.map(lambda it: fault_of_mutated_sessions(program, *it), drawn))
     statuses = collections.Counter(status for status, _ in results)
     print(
-        f"{count // 5} lines changed in {len(inputs)} inputs of sessions: {statuses[DONE]} are still commands, of which one thread gets "
-        f"what was written; {statuses[BAD_LINE]} are none, and their number was told"
+        f"{count // 5} lines changed in {len(inputs)} inputs of sessions: {statuses[DONE]} are still commands, and a single thread "
+        f"gets what was written; {statuses[BAD_LINE]} aren't commands, and their number was told"
     )
     return faults + [fault for _, fault in results if fault]
 
@@ -347,7 +347,7 @@ def mutated_arrays(program, count, draw):
     statuses = collections.Counter(status for status, _ in results)
     print(
         f"{count} lines changed in {len(cases)} cases of arrays: {statuses[DONE]} are still operations, and as many replies were "
-        f"written as the case has lines; {statuses[BAD_LINE]} are none, and their number was told"
+        f"written as the case has lines; {statuses[BAD_LINE]} aren't operations, and their number was told"
     )
     return [fault for _, fault in results if fault]
 
@@ -364,7 +364,7 @@ def mutated_cases(program, count, draw):
     statuses = collections.Counter(status for status, _ in results)
     print(
         f"{count} lines changed in {len(inputs)} cases: {statuses[DONE]} are still commands, and as many "
-        f"replies were written as the case has commands; {statuses[BAD_LINE]} are none, and their number was told"
+        f"replies were written as the case has commands; {statuses[BAD_LINE]} aren't commands, and their number was told"
     )
     return [fault for _, fault in results if fault]
 

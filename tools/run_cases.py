@@ -131,7 +131,7 @@ def differences(program, case, ran):
         written = case.written if ran.written is None else ran.written
         found.append(complaints.fault_of(case.status, case.words, case.given, written or b"", ran.complaint))
         if case.complaint is not None and ran.complaint != case.complaint:
-            found.append(f"on standard error has to come {case.complaint!r}, and came {ran.complaint!r}")
+            found.append(f"standard error has to have {case.complaint!r}, and it has {ran.complaint!r}")
     return [it for it in found if it is not None]
 
 
@@ -341,7 +341,7 @@ def told(folder, results):
 
 def main_unproved(named):
     if named not in ([], ["examples"]):
-        print("without proof run the examples, or all others: run_cases.py --unproved [examples]", file=sys.stderr)
+        print("without proof, either the examples are run or all other cases: run_cases.py --unproved [examples]", file=sys.stderr)
         return 2
     chosen = [*folders(["examples"]), own_input()] if named else folders([])[1:]
     left = [case for folder in chosen for case in folder.cases if case.address_space is not None]
@@ -357,7 +357,7 @@ def main_unproved(named):
         more = told(folder, [differences(None, case, ran) for case, ran in zip(folder.cases, came)])
         passed, failed = passed + more[0], failed + more[1]
     for case in left:
-        print(f"skipped: the case '{case.name}': it limits the memory, which rt try doesn't; `.ci/run` runs it")
+        print(f"skipped: the case '{case.name}': it needs a limit of memory, which rt try can't set; `.ci/run` runs it")
     print(f"{passed} passed, {failed} failed" + (f", {len(left)} skipped" if left else ""))
     return 1 if failed else 0
 

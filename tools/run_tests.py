@@ -237,11 +237,11 @@ def main(words):
     names = [it for it in words if not it.startswith("--")]
     strange = [it for it in words if it.startswith("--") and it not in ("--built", "--list")]
     if strange:
-        print(f"test: there is no option {strange[0]}: ./test --help", file=sys.stderr)
+        print(f"test: there is no option {strange[0]}; ./test --help says which there are", file=sys.stderr)
         return 2
     for name in names:
         if not any(name in part.name for part in chosen):
-            print(f"test: no part has {name!r} in its name: ./test --list", file=sys.stderr)
+            print(f"test: no part has {name!r} in its name; ./test --list names the parts", file=sys.stderr)
             return 2
     if names:
         chosen = [part for part in chosen if any(name in part.name for name in names)]

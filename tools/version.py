@@ -64,7 +64,7 @@ def main(words):
             (ROOT / name).write_text(came)
             print(f"version: {name} has {wanted} now")
         elif came != text:
-            faults.append(f"{name} has another version than {wanted}: tools/version.py --write")
+            faults.append(f"{name} has another version than {wanted}; tools/version.py --write writes it")
     newest = re.search(r"^## (.*)$", (ROOT / "CHANGELOG.md").read_text(), re.MULTILINE)
     if not newest or newest[1].split()[0] != wanted:
         faults.append(f"CHANGELOG.md begins with another version than {wanted}")
@@ -75,7 +75,7 @@ def main(words):
             path.write_text(came)
             print(f"version: {name} has {wanted} now")
         elif came != text:
-            faults.append(f"{name} names an archive of another version than {wanted}: tools/version.py --write")
+            faults.append(f"{name} names an archive of another version than {wanted}; tools/version.py --write writes it")
     for fault in faults:
         print(f"version: {fault}", file=sys.stderr)
     return 1 if faults else 0

@@ -24,8 +24,9 @@ joined_dims joined dims = drop (length dims - joined) dims
 abbrev pub outer_dims : ℕ → List (ℕ × ℤ × ℤ) → List (ℕ × ℤ × ℤ)
 outer_dims joined dims = take (length dims - joined) dims
 
--- The ranges of a walk that joins this many of the last dimensions. There is one for each place of the dimensions before
--- them, row-major. It has as many bytes as the items of the joined dimensions have. Without items there is no range.
+-- The ranges of a walk that joins this many of the last dimensions. There is one for each place of the dimensions
+-- before them, row-major. It has as many bytes as the items of the joined dimensions have. Without items there is no
+-- range.
 abbrev pub ranges_of : Descriptor → ℤ → ℕ → List (Range ℕ)
 ranges_of d start joined =
     if product (shape_of d.dims) == 0 then []

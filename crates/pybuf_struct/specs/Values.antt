@@ -55,8 +55,8 @@ abbrev pub item_of : List Scalar → Item
 item_of (v ∷ []) = item.One v
 item_of vs = item.Many vs
 
--- whether a field of a code may have this many bytes: `s` and `p` may have any number, and every other code has those of
--- one unit
+-- whether a field of a code may have this many bytes: `s` and `p` may have any number, and every other code has those
+-- of one unit
 abbrev pub is_length : Endianness → FormatType → ℕ → Bool
 is_length o code.Str n = true
 is_length o code.Pascal n = true
