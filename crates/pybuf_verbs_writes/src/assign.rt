@@ -15,7 +15,7 @@ ghost use Rattle.pybuf_state.specs.Exporter.{Exporter, exports_of};
 ghost use Rattle.pybuf_state.specs.Loans.{lents_of_value};
 ghost use Rattle.pybuf_state.specs.Names as names_spec;
 ghost use Rattle.pybuf_state.specs.Snaps.{snap_of_exporter, snap_of_subject};
-ghost use Rattle.pybuf_state.specs.Answers.{exporter_of, IsWhole, Answers, AnswersIn, as_done, as_bytes};
+ghost use Rattle.pybuf_state.specs.Answers.{exporter_of, IsWhole, Answers, AnswersIn, as_done};
 ghost use Rattle.pybuf_state.specs.Laws.{IsSoundLayout};
 ghost use Rattle.pybuf_verbs_writes.specs.Assign as spec;
 
