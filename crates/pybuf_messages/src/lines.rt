@@ -249,6 +249,37 @@ fn first_wrong(alloc: Global, lines: Lines, input: &[u8]) -> Made<Option<u64>> {
     }
 }
 
+/// Whether one of the words is empty.
+fn has_empty(words: &[&[u8]]) -> bool {
+    for word in words {
+        if word.is_empty() {
+            return true;
+        }
+    }
+    false
+}
+
+/// Adds what is wrong with the words of a line.
+fn push_words_fault(
+    alloc: Global,
+    out: &mut Vec<u8>,
+    lines: Lines,
+    words: &[&[u8]],
+    number: u64,
+) -> Made<()> {
+    if has_empty(words) {
+        return push_text(
+            out,
+            b"one blank stands between words, and none before the first or behind the last",
+        );
+    }
+    match lines {
+        Lines::Commands => push_command_fault(alloc, out, words, false),
+        Lines::Operations => push_operation_fault(alloc, out, words),
+        Lines::Sessions => push_session_fault(alloc, out, words, number),
+    }
+}
+
 /// Adds what is wrong with a line.
 fn push_line_fault(
     alloc: Global,
@@ -262,19 +293,7 @@ fn push_line_fault(
     }
     let mut words = Vec::new(alloc);
     fill_words(&mut words, line)?;
-    for word in words.as_slice() {
-        if word.is_empty() {
-            return push_text(
-                out,
-                b"one blank stands between words, and none before the first or behind the last",
-            );
-        }
-    }
-    match lines {
-        Lines::Commands => push_command_fault(alloc, out, words.as_slice(), false),
-        Lines::Operations => push_operation_fault(alloc, out, words.as_slice()),
-        Lines::Sessions => push_session_fault(alloc, out, words.as_slice(), number),
-    }
+    push_words_fault(alloc, out, lines, words.as_slice(), number)
 }
 
 /// Adds a line with its number, and what is wrong with it.

@@ -54,10 +54,10 @@ fn push_reason(
     if status == Status::Usage {
         return push_wrong_word(alloc, out, words);
     }
-    if let Some(input) = input
-        && push_wrong_input(alloc, out, words, status, input)?
-    {
-        return Ok(());
+    if let Some(input) = input {
+        if push_wrong_input(alloc, out, words, status, input)? {
+            return Ok(());
+        }
     }
     push_meaning(out, status)
 }
