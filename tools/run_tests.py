@@ -172,6 +172,7 @@ def parts(built):
     checks = [
         command_part("documents", "python3", "tools/check_documents.py"),
         command_part("items", "python3", "tools/check_items.py"),
+        command_part("names", "python3", "tools/check_names.py"),
         command_part("boundaries", ".ci/boundaries"),
         command_part("byhand", ".ci/byhand"),
     ]

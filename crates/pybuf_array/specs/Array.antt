@@ -1,5 +1,5 @@
 -- Arrays of whole numbers, and what their operations do. These definitions speak of numbers, and not of bytes.
-use Rattle.std.specs.Prelude.{ℕ, suc, Bool, true, false, not, ℤ, pos, negsuc, List, [], ◌∷◌, ◌++◌, length, map, set, Option, Result, Ok, nat_lt, slice_get, slice_index, slice_index_or, count_by, unwrap_or}
+use Rattle.std.specs.Prelude.{◌≡◌, ℕ, suc, Bool, true, false, not, ℤ, pos, negsuc, List, [], ◌∷◌, ◌++◌, length, map, set, Option, Result, Ok, Err, MatchResult, nat_lt, slice_get, slice_index, slice_index_or, count_by, unwrap_or}
 use Rattle.std.specs.List.{list_all, position, range_with_len}
 use Rattle.std.specs.Option.{ok_or}
 use Rattle.std.specs.Ordering.{int_eq}
@@ -181,3 +181,11 @@ abbrev pub released_in : Array → ℕ → Result (Array × Unit {0}) Fault
 released_in a k = do
   v ← view_at a k
   Ok (record a { views = set a.views k (record v { released = true }) }, tt)
+
+-- a call is refused exactly as a check is
+abbrev pub RefusedAs : {A : Type 0} → Result Bool Fault → Result A Fault → Type 0
+RefusedAs check result = MatchResult result (λ _. check ≡ Ok true) (λ f. check ≡ Err f)
+
+-- a call gives what is due, or is refused as is due
+abbrev pub GivesOrRefuses : {A : Type 0} → Result A Fault → Result A Fault → Type 0
+GivesOrRefuses due result = MatchResult result (λ given. due ≡ Ok given) (λ f. due ≡ Err f)

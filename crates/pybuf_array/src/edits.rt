@@ -14,7 +14,7 @@ use pybuf_value::{Fault, Halt, Made, fit_count};
 impl PyArray {
     /// Refused with `BufferError` exactly where a view is unreleased.
     fn check_size(&self) -> Result<(), Fault>
-        ensures { MatchResult result (λ _. spec.may_resize self.now ≡ Ok true) (λ fault. spec.may_resize self.now ≡ Err fault) }
+        ensures { spec.RefusedAs (spec.may_resize self.now) result }
     {
         if self.exports() > 0 {
             return Err(Fault::Buffer);
@@ -24,7 +24,7 @@ impl PyArray {
 
     /// Refused with `OverflowError` exactly where a number isn't in the range of the code.
     pub(crate) fn check_range(&self, value: i128) -> Result<(), Fault>
-        ensures { MatchResult result (λ _. spec.in_range self.now value ≡ Ok true) (λ fault. spec.in_range self.now value ≡ Err fault) }
+        ensures { spec.RefusedAs (spec.in_range self.now value) result }
     {
         if self.code().holds(value) {
             Ok(())

@@ -1,5 +1,5 @@
 //! Views of an array.
-ghost use Rattle.std.specs.Prelude.{◌≡◌, ℕ, ◌<◌, ◌≤◌, ◌^◌, true, false, length, slice_get, Ok, Err, IfOk, IfErr, OnOk, OnErr, MatchResult};
+ghost use Rattle.std.specs.Prelude.{◌≡◌, ◌<◌, ◌^◌, false, length, slice_get, Ok, Err, IfOk, IfErr, OnOk, OnErr, MatchResult};
 ghost use Rattle.pybuf_value.specs.declared.halt.Halt.TheVariants as halts;
 ghost use Rattle.pybuf_numbers.specs.Walks.{indices_of, LiesBelow};
 ghost use Rattle.pybuf_array.specs.Array as spec;
@@ -91,7 +91,7 @@ impl PyArray {
     /// Refused with `UnknownName` where the view was never given, with `ValueError` where it was released, and with
     /// `IndexError` where there is none.
     fn place_in_view(&self, view: usize, index: i128) -> Result<usize, Fault>
-        ensures place { MatchResult result (λ place. spec.place_in_view self.now view index ≡ Ok place) (λ fault. spec.place_in_view self.now view index ≡ Err fault) }
+        ensures place { spec.GivesOrRefuses (spec.place_in_view self.now view index) result }
         ensures there { IfOk result (λ place. place < length self.now.numbers) }
     {
         let run = self.live_run(view)?;

@@ -1,5 +1,5 @@
 -- Subjects whose bytes are lent to be written in place.
-use Rattle.std.specs.Prelude.{ℕ, Bool, false, not, ◌&&◌, List, [], slice_index, Result, Err}
+use Rattle.std.specs.Prelude.{◌≡◌, ℕ, Bool, true, false, not, ◌&&◌, List, [], slice_index, Result, Ok, Err, MatchResult}
 use Rattle.pybuf_value.specs.declared.faults.Fault.{Fault}
 use Rattle.pybuf_value.specs.declared.faults.Fault.TheVariants as fault
 use Rattle.pybuf_value.specs.Refusing.{◌>>=◌, unless}
@@ -50,3 +50,7 @@ written_through e s bytes = record e { bytes = bytes_after e s bytes }
 -- The room of a stored exporter stays too.
 abbrev pub stored_through : StoredExporter → Subject → List ℕ → StoredExporter
 stored_through s u bytes = record s { exporter = written_through s.exporter u bytes }
+
+-- a call is refused exactly as asking to write is
+abbrev pub RefusedAsAsked : {A : Type 0} → Exporter → Subject → Result A Fault → Type 0
+RefusedAsAsked e s result = MatchResult result (λ _. asked_to_write e s ≡ Ok true) (λ f. asked_to_write e s ≡ Err f)

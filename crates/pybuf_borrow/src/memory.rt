@@ -1,7 +1,7 @@
 //! The bytes of a subject of an exporter, borrowed to be written.
-ghost use Rattle.std.specs.Prelude.{◌≡◌, ◌==◌, ℕ, List, true, Ok, Err, length, MatchResult, IfOk, IfErr};
+ghost use Rattle.std.specs.Prelude.{◌≡◌, ◌==◌, ℕ, List, true, length, IfOk, IfErr};
 ghost use Rattle.std.specs.Fn.{FnOnceReturnsAtMut};
-ghost use Rattle.pybuf_borrow.specs.Writable.{asked_to_write, is_writable, lent_bytes, stored_through};
+ghost use Rattle.pybuf_borrow.specs.Writable.{is_writable, lent_bytes, stored_through, RefusedAsAsked};
 
 use pybuf_command::Subject;
 use pybuf_exporter::ExporterState;
@@ -22,7 +22,7 @@ pub struct ArgMemoryBuffer<'a> {
 /// Whether the bytes of a subject may be written where they lie.
 fn asked_to_write(state: &ExporterState, subject: Subject) -> Result<(), Fault>
     ensures ok { IfOk result (λ _. is_writable state.now.exporter subject ≡ true) }
-    ensures exact { MatchResult result (λ _. asked_to_write state.now.exporter subject ≡ Ok true) (λ fault. asked_to_write state.now.exporter subject ≡ Err fault) }
+    ensures exact { RefusedAsAsked state.now.exporter subject result }
 {
     match subject {
         Subject::Own => {
@@ -80,7 +80,7 @@ impl<'a> ArgMemoryBuffer<'a> {
         ensures same_reference { IfOk result (λ borrow. borrow.state.ghost_name ≡ state.entry.ghost_name) }
         ensures state { IfOk result (λ borrow. borrow.state.now ≡ state.old) }
         ensures subject { IfOk result (λ borrow. borrow.subject ≡ subject) }
-        ensures exact { MatchResult result (λ _. asked_to_write state.old.exporter subject ≡ Ok true) (λ fault. asked_to_write state.old.exporter subject ≡ Err fault) }
+        ensures exact { RefusedAsAsked state.old.exporter subject result }
     {
         asked_to_write(state, subject)?;
         Ok(ArgMemoryBuffer::of_subject(state, subject))
@@ -145,7 +145,7 @@ pub fn try_rw_bytes_like<R, F: FnOnce(&mut [u8]) -> R>(
 ) -> Result<R, Fault>
     requires { F.IsAlwaysCallable f }
     ensures ok { IfOk result (λ made. (last : List ℕ) × FnOnceReturnsAtMut F.FnOnce f (lent_bytes state.old.exporter subject) made last × (state.new ≡ stored_through state.old subject last)) }
-    ensures exact { MatchResult result (λ _. asked_to_write state.old.exporter subject ≡ Ok true) (λ fault. asked_to_write state.old.exporter subject ≡ Err fault) }
+    ensures exact { RefusedAsAsked state.old.exporter subject result }
     ensures err { IfErr result (λ _. state.new ≡ state.old) }
 {
     let mut borrow = ArgMemoryBuffer::try_from_subject(state, subject)?;

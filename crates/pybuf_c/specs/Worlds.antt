@@ -27,19 +27,19 @@ use Rattle.pybuf_c.specs.Status.{answer_number, fault_number}
 
 -- The command was carried out, and the number of the call tells how.
 abbrev pub Answers : Command → ℕ → Console → Console → Type 0
-Answers command n old new = HasAsked command old new × (n ≡ answer_number (refusal_of new.last))
+Answers asked n old new = HasAsked asked old new × (n ≡ answer_number (refusal_of new.last))
 
 -- The world of the handle carried out the command, unless the call answers 1 (there is no memory) or 2 (the handle has no world).
 abbrev pub CarriesOut : Command → ℕ → WorldHandle → WorldHandle → Type 0
-CarriesOut command n old new = n ≢ 1 → n ≢ 2 → BothHold (Answers command n) (held old) (held new)
+CarriesOut asked n old new = n ≢ 1 → n ≢ 2 → BothHold (Answers asked n) (held old) (held new)
 
 -- so it carried out a verb, asked of a subject
 abbrev pub Asks : ℕ → Verb → ℕ → WorldHandle → WorldHandle → Type 0
-Asks subject verb n old new = CarriesOut (command.Do subject verb) n old new
+Asks subject asked n old new = CarriesOut (command.Do subject asked) n old new
 
 -- so it did, unless the call answers 6 (what was passed stands for nothing)
 abbrev pub AsksKnown : ℕ → Verb → ℕ → WorldHandle → WorldHandle → Type 0
-AsksKnown subject verb n old new = n ≢ 1 → n ≢ 2 → n ≢ 6 → BothHold (Answers (command.Do subject verb) n) (held old) (held new)
+AsksKnown subject asked n old new = n ≢ 1 → n ≢ 2 → n ≢ 6 → BothHold (Answers (command.Do subject asked) n) (held old) (held new)
 
 -- so it made an exporter of these bytes, of the kind that a number stands for
 abbrev pub MakesExporter : ℕ → List ℕ → ℕ → WorldHandle → WorldHandle → Type 0

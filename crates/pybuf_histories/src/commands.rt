@@ -1,11 +1,11 @@
 //! Commands as lines spell them, with their subjects and their handles named by what they are.
 ghost use Rattle.std.specs.Prelude.{◌≡◌, ◌∷◌, [], ◌++◌, map, OnOk};
-ghost use Rattle.std.specs.Str.{byte};
 ghost use Rattle.pybuf_line.specs.Spellings.{written_value};
 ghost use Rattle.pybuf_line.specs.Commands.{values_of, written_options, written_call, written_arguments};
 ghost use Rattle.pybuf_histories.specs.Commands.{command_text};
 ghost use Rattle.pybuf_histories.specs.Names.{name_of};
 ghost use Rattle.pybuf_histories.specs.Words.{after_blanks};
+ghost use Rattle.pybuf_histories.specs.Pushing.{Pushes};
 
 use crate::methods::method_text;
 use crate::names::push_subject;
@@ -25,7 +25,7 @@ fn push_word(out: &mut Vec<u8>, word: &str) -> Made<()>
 
 /// Adds a value after a blank.
 fn push_one(out: &mut Vec<u8>, loans: &LoanList, value: &Value) -> Made<()>
-    ensures { OnOk result (out.new.items ≡ out.old.items ++ after_blanks (map (written_value (name_of loans.now)) (value.now ∷ []))) }
+    ensures { Pushes (after_blanks (map (written_value (name_of loans.now)) (value.now ∷ []))) out.old out.new result }
 {
     out.push(b' ')?;
     push_value(out, loans, value)
@@ -33,7 +33,7 @@ fn push_one(out: &mut Vec<u8>, loans: &LoanList, value: &Value) -> Made<()>
 
 /// Adds two values, each after a blank.
 fn push_two(out: &mut Vec<u8>, loans: &LoanList, first: &Value, second: &Value) -> Made<()>
-    ensures { OnOk result (out.new.items ≡ out.old.items ++ after_blanks (map (written_value (name_of loans.now)) (first.now ∷ second.now ∷ []))) }
+    ensures { Pushes (after_blanks (map (written_value (name_of loans.now)) (first.now ∷ second.now ∷ []))) out.old out.new result }
 {
     push_one(out, loans, first)?;
     push_one(out, loans, second)
@@ -41,7 +41,7 @@ fn push_two(out: &mut Vec<u8>, loans: &LoanList, first: &Value, second: &Value) 
 
 /// Adds values, each after a blank.
 fn push_values(out: &mut Vec<u8>, loans: &LoanList, values: &[Value]) -> Made<()>
-    ensures { OnOk result (out.new.items ≡ out.old.items ++ after_blanks (map (written_value (name_of loans.now)) values.now)) }
+    ensures { Pushes (after_blanks (map (written_value (name_of loans.now)) values.now)) out.old out.new result }
 {
     for value in values {
         push_one(out, loans, value)?;
@@ -51,7 +51,7 @@ fn push_values(out: &mut Vec<u8>, loans: &LoanList, values: &[Value]) -> Made<()
 
 /// Adds the values that bytes are made of, each of which comes only after the one before.
 fn push_options(out: &mut Vec<u8>, loans: &LoanList, options: &ByteInnerNewOptions) -> Made<()>
-    ensures { OnOk result (out.new.items ≡ out.old.items ++ after_blanks (written_options (name_of loans.now) options.now)) }
+    ensures { Pushes (after_blanks (written_options (name_of loans.now) options.now)) out.old out.new result }
 {
     match (&options.source, &options.encoding, &options.errors) {
         (None, _, _) => Ok(()),
@@ -66,7 +66,7 @@ fn push_options(out: &mut Vec<u8>, loans: &LoanList, options: &ByteInnerNewOptio
 
 /// Adds a call: the name of its method, and its arguments.
 fn push_call(out: &mut Vec<u8>, loans: &LoanList, method: &MethodCall) -> Made<()>
-    ensures { OnOk result (out.new.items ≡ out.old.items ++ after_blanks (written_call (name_of loans.now) method.now)) }
+    ensures { Pushes (after_blanks (written_call (name_of loans.now) method.now)) out.old out.new result }
 {
     push_word(out, method_text(method.name))?;
     push_values(out, loans, method.args.as_slice())
@@ -74,7 +74,7 @@ fn push_call(out: &mut Vec<u8>, loans: &LoanList, method: &MethodCall) -> Made<(
 
 /// Adds the values of a verb that has no other arguments, each after a blank.
 fn push_verb_values(out: &mut Vec<u8>, loans: &LoanList, verb: &Verb) -> Made<()>
-    ensures { OnOk result (out.new.items ≡ out.old.items ++ after_blanks (map (written_value (name_of loans.now)) (values_of verb.now))) }
+    ensures { Pushes (after_blanks (map (written_value (name_of loans.now)) (values_of verb.now))) out.old out.new result }
 {
     match verb {
         Verb::Get { key } => push_one(out, loans, key),
@@ -114,7 +114,7 @@ fn push_verb_values(out: &mut Vec<u8>, loans: &LoanList, verb: &Verb) -> Made<()
 
 /// Adds the words after the subject, each after a blank.
 fn push_arguments(out: &mut Vec<u8>, loans: &LoanList, verb: &Verb) -> Made<()>
-    ensures { OnOk result (out.new.items ≡ out.old.items ++ after_blanks (written_arguments (name_of loans.now) verb.now)) }
+    ensures { Pushes (after_blanks (written_arguments (name_of loans.now) verb.now)) out.old out.new result }
 {
     match verb {
         Verb::Property { name } => push_word(out, property_text(*name)),

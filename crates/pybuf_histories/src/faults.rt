@@ -2,6 +2,7 @@
 ghost use Rattle.std.specs.Prelude.{◌≡◌, ◌++◌, OnOk};
 ghost use Rattle.pybuf_share.specs.declared.joined.FinishFault.{FinishFault};
 ghost use Rattle.pybuf_histories.specs.Faults as spec;
+ghost use Rattle.pybuf_histories.specs.Pushing.{Pushes};
 
 use crate::entries::push_entry;
 use crate::words::kind_text;
@@ -34,7 +35,7 @@ fn push_opening(out: &mut Vec<u8>, kind: ExporterKind, bytes: &[u8]) -> Made<()>
 
 /// Adds the line of an entry that isn't the one of its number.
 fn push_disagreement(out: &mut Vec<u8>, at: u64, kept: &Option<Entry>, got: &Entry) -> Made<()>
-    ensures { OnOk result (out.new.items ≡ out.old.items ++ spec.fault_text (FinishFault.Disagree at kept.now got.now)) }
+    ensures { Pushes (spec.fault_text (FinishFault.Disagree at kept.now got.now)) out.old out.new result }
 {
     out.extend_from_slice(b"disagree ")?;
     push_decimal(out, at)?;
@@ -48,7 +49,7 @@ fn push_disagreement(out: &mut Vec<u8>, at: u64, kept: &Option<Entry>, got: &Ent
 
 /// Adds the line of two numbers that don't rise.
 fn push_fall(out: &mut Vec<u8>, session: u64, before: u64, after: u64) -> Made<()>
-    ensures { OnOk result (out.new.items ≡ out.old.items ++ spec.fault_text (FinishFault.Order session before after)) }
+    ensures { Pushes (spec.fault_text (FinishFault.Order session before after)) out.old out.new result }
 {
     out.extend_from_slice(b"order ")?;
     push_decimal(out, session)?;
@@ -68,7 +69,7 @@ fn push_openings(
     kept_kind: ExporterKind,
     kept: &[u8],
 ) -> Made<()>
-    ensures { OnOk result (out.new.items ≡ out.old.items ++ spec.fault_text (FinishFault.Opening given_kind given.now kept_kind kept.now)) }
+    ensures { Pushes (spec.fault_text (FinishFault.Opening given_kind given.now kept_kind kept.now)) out.old out.new result }
 {
     out.extend_from_slice(b"opening ")?;
     push_opening(out, given_kind, given)?;

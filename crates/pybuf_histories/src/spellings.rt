@@ -5,6 +5,7 @@ ghost use Rattle.pybuf_line.specs.Scalars.{written_scalar};
 ghost use Rattle.pybuf_line.specs.Spellings.{written_slice, written_parts, written_value};
 ghost use Rattle.pybuf_histories.specs.Names.{name_of};
 ghost use Rattle.pybuf_histories.specs.Words.{after_commas};
+ghost use Rattle.pybuf_histories.specs.Pushing.{Pushes};
 
 use crate::names::{push_bytes_value, push_name};
 use pybuf_command::LoanList;
@@ -61,7 +62,7 @@ impl Part for PySlice {
 
 /// Adds parts, each after a comma.
 fn push_next_parts<T: Part>(out: &mut Vec<u8>, loans: &LoanList, parts: &[T]) -> Made<()>
-    ensures { OnOk result (out.new.items ≡ out.old.items ++ after_commas (T.spelling (name_of loans.now)) parts.now) }
+    ensures { Pushes (after_commas (T.spelling (name_of loans.now)) parts.now) out.old out.new result }
 {
     for part in parts {
         out.push(b',')?;
@@ -72,7 +73,7 @@ fn push_next_parts<T: Part>(out: &mut Vec<u8>, loans: &LoanList, parts: &[T]) ->
 
 /// Adds a first part, and others, each after a comma.
 fn push_first_parts<T: Part>(out: &mut Vec<u8>, loans: &LoanList, first: &T, more: &[T]) -> Made<()>
-    ensures { OnOk result (out.new.items ≡ out.old.items ++ written_parts (T.spelling (name_of loans.now)) (first.now ∷ more.now)) }
+    ensures { Pushes (written_parts (T.spelling (name_of loans.now)) (first.now ∷ more.now)) out.old out.new result }
 {
     first.push_part(out, loans)?;
     push_next_parts(out, loans, more)
@@ -80,7 +81,7 @@ fn push_first_parts<T: Part>(out: &mut Vec<u8>, loans: &LoanList, first: &T, mor
 
 /// Adds parts with a comma between each two.
 fn push_parts<T: Part>(out: &mut Vec<u8>, loans: &LoanList, parts: &[T]) -> Made<()>
-    ensures { OnOk result (out.new.items ≡ out.old.items ++ written_parts (T.spelling (name_of loans.now)) parts.now) }
+    ensures { Pushes (written_parts (T.spelling (name_of loans.now)) parts.now) out.old out.new result }
 {
     match parts {
         [] => Ok(()),
@@ -96,7 +97,7 @@ fn push_enclosed<T: Part>(
     parts: &[T],
     closing: u8,
 ) -> Made<()>
-    ensures { OnOk result (out.new.items ≡ out.old.items ++ (opening ∷ written_parts (T.spelling (name_of loans.now)) parts.now ++ closing ∷ [])) }
+    ensures { Pushes (opening ∷ written_parts (T.spelling (name_of loans.now)) parts.now ++ closing ∷ []) out.old out.new result }
 {
     out.push(opening)?;
     push_parts(out, loans, parts)?;

@@ -1,3 +1,4 @@
+pub mod Answering
 pub mod Assigning
 pub mod Axes
 pub mod Chains

@@ -1,14 +1,15 @@
 //! The axes in another order.
 ghost use Rattle.std.specs.Prelude.{◌≡◌, ◌<◌, ◌&&◌, ℕ, length, nat_lt, reverse, IfOk, All};
-ghost use Rattle.pybuf_value.specs.Halting.{given_by, refusal_of};
+ghost use Rattle.pybuf_value.specs.Halting.{given_by};
 ghost use Rattle.pybuf_value.specs.Refusing.{IfDone};
 ghost use Rattle.pybuf_desc.specs.Layouts.{Layout};
 ghost use Rattle.pybuf_desc.specs.Descriptor.{shape_of};
 ghost use Rattle.pybuf_desc.specs.Places.{Stands};
-ghost use Rattle.pybuf_desc.specs.Valid.{IsValid, IsPlaceable};
+ghost use Rattle.pybuf_desc.specs.Valid.{IsPlaceable};
 ghost use Rattle.pybuf_nd.specs.Axes.{AreAxes, view_in_order, transposition_of, order_check};
 ghost use Rattle.pybuf_nd.specs.Dims.{dims_in_order};
 ghost use Rattle.pybuf_nd.specs.Selections.{has_zero};
+ghost use Rattle.pybuf_nd.specs.Answering.{RefusedAs, StaysValid};
 
 use crate::made::{has_zero_entry, in_dims};
 use pybuf_desc::BufferDescriptor;
@@ -52,8 +53,8 @@ fn has_zero_of_several(dims: &[(usize, isize, isize)]) -> bool
 pub fn permute(alloc: Global, desc: &BufferDescriptor, axes: &[usize]) -> Tried<BufferDescriptor>
     requires valid { IsPlaceable desc.now }
     requires each_once { AreAxes (length desc.now.dims) axes.now }
-    ensures refused { IfOk result (λ answer. refusal_of (given_by answer) ≡ refusal_of (order_check (shape_of desc.now.dims))) }
-    ensures valid { IfOk result (λ answer. IfDone (λ made. (start room : ℕ) → IsValid desc.now start room → IsValid made start room) (given_by answer)) }
+    ensures refused { IfOk result (λ answer. RefusedAs (order_check (shape_of desc.now.dims)) answer) }
+    ensures valid { IfOk result (λ answer. StaysValid desc.now answer) }
     ensures stands { IfOk result (λ answer. IfDone (λ made. (start : ℕ) (view : Layout) → Stands desc.now start view → Stands made start (view_in_order view axes.now)) (given_by answer)) }
 {
     let dims = desc.dim_desc();
@@ -72,8 +73,8 @@ pub fn permute(alloc: Global, desc: &BufferDescriptor, axes: &[usize]) -> Tried<
 /// Example: of the items `[[1, 2, 3], [4, 5, 6]]` it gives `[[1, 4], [2, 5], [3, 6]]`.
 pub fn transpose(alloc: Global, desc: &BufferDescriptor) -> Tried<BufferDescriptor>
     requires { IsPlaceable desc.now }
-    ensures refused { IfOk result (λ answer. refusal_of (given_by answer) ≡ refusal_of (order_check (shape_of desc.now.dims))) }
-    ensures valid { IfOk result (λ answer. IfDone (λ made. (start room : ℕ) → IsValid desc.now start room → IsValid made start room) (given_by answer)) }
+    ensures refused { IfOk result (λ answer. RefusedAs (order_check (shape_of desc.now.dims)) answer) }
+    ensures valid { IfOk result (λ answer. StaysValid desc.now answer) }
     ensures stands { IfOk result (λ answer. IfDone (λ made. (start : ℕ) (view : Layout) → Stands desc.now start view → Stands made start (transposition_of view)) (given_by answer)) }
 {
     let dims = desc.dim_desc();

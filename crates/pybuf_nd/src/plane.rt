@@ -1,12 +1,13 @@
 //! The items at one place of an axis.
-ghost use Rattle.std.specs.Prelude.{◌≡◌, ◌<◌, ℕ, length, remove, IfOk};
-ghost use Rattle.pybuf_value.specs.Halting.{given_by, refusal_of};
+ghost use Rattle.std.specs.Prelude.{◌≡◌, ◌<◌, length, remove, IfOk};
+ghost use Rattle.pybuf_value.specs.Halting.{given_by};
 ghost use Rattle.pybuf_value.specs.Refusing.{IfDone};
 ghost use Rattle.pybuf_desc.specs.Layouts.{Layout};
 ghost use Rattle.pybuf_desc.specs.Descriptor.{shape_of};
 ghost use Rattle.pybuf_desc.specs.Places.{Stands};
-ghost use Rattle.pybuf_desc.specs.Valid.{IsValid, IsPlaced};
+ghost use Rattle.pybuf_desc.specs.Valid.{IsPlaced};
 ghost use Rattle.pybuf_nd.specs.Planes.{plane_of, entry_of_place};
+ghost use Rattle.pybuf_nd.specs.Answering.{RefusedAs, StaysValidAt};
 
 use crate::made::{has_zero_entry, in_dims, place_after, way_to};
 use pybuf_desc::BufferDescriptor;
@@ -41,8 +42,8 @@ pub fn pick(
 ) -> Tried<(BufferDescriptor, usize)>
     requires placed { IsPlaced desc.now start }
     requires axis_exists { axis < length desc.now.dims }
-    ensures refused { IfOk result (λ answer. refusal_of (given_by answer) ≡ refusal_of (entry_of_place (shape_of desc.now.dims) axis place)) }
-    ensures valid { IfOk result (λ answer. IfDone (λ made. (room : ℕ) → IsValid desc.now start room → IsValid made.0 made.1 room) (given_by answer)) }
+    ensures refused { IfOk result (λ answer. RefusedAs (entry_of_place (shape_of desc.now.dims) axis place) answer) }
+    ensures valid { IfOk result (λ answer. StaysValidAt desc.now start answer) }
     ensures stands { IfOk result (λ answer. IfDone (λ made. (view : Layout) → Stands desc.now start view → IfDone (λ entry. Stands made.0 made.1 (plane_of view axis entry)) (entry_of_place view.shape axis place)) (given_by answer)) }
 {
     let dims = desc.dim_desc();

@@ -1,16 +1,16 @@
 //! Slices in each dimension.
-ghost use Rattle.std.specs.Prelude.{◌≡◌, ◌^◌, ◌<◌, ◌+ℤ◌, ◌*ℤ◌, ℕ, pos, false, length, drop, IfOk, All};
-ghost use Rattle.std.specs.List.{AllByRecursion};
-ghost use Rattle.pybuf_value.specs.Halting.{given_by, refusal_of};
+ghost use Rattle.std.specs.Prelude.{◌≡◌, ◌^◌, ◌<◌, ◌+ℤ◌, ◌*ℤ◌, pos, false, length, drop, IfOk, All};
+ghost use Rattle.pybuf_value.specs.Halting.{given_by};
 ghost use Rattle.pybuf_value.specs.Refusing.{IfDone};
 ghost use Rattle.pybuf_index.specs.Parts.{IsSaturated, nearest_word};
 ghost use Rattle.pybuf_desc.specs.Layouts.{Layout};
 ghost use Rattle.pybuf_desc.specs.Descriptor.{shape_of};
 ghost use Rattle.pybuf_desc.specs.Places.{Stands};
 ghost use Rattle.pybuf_desc.specs.Positions.{AreIndices, offset_of};
-ghost use Rattle.pybuf_desc.specs.Valid.{IsValid, IsPlaced};
+ghost use Rattle.pybuf_desc.specs.Valid.{IsPlaced};
 ghost use Rattle.pybuf_nd.specs.Dims.{cut_dim, cut_dims, firsts_of};
 ghost use Rattle.pybuf_nd.specs.Selections.{has_zero, counts_of, picks_of_each, selection_of, selection_check};
+ghost use Rattle.pybuf_nd.specs.Answering.{RefusedAs, StaysValidAt};
 
 use crate::made::{has_zero_entry, in_dims, place_after};
 use pybuf_desc::BufferDescriptor;
@@ -110,8 +110,8 @@ pub fn slice_all(
     requires placed { IsPlaced desc.now start }
     requires some_dimension { 0 < length desc.now.dims }
     requires one_each { length slices.now ≡ length desc.now.dims }
-    ensures refused { IfOk result (λ answer. refusal_of (given_by answer) ≡ refusal_of (selection_check (shape_of desc.now.dims) slices.now)) }
-    ensures valid { IfOk result (λ answer. IfDone (λ made. (room : ℕ) → IsValid desc.now start room → IsValid made.0 made.1 room) (given_by answer)) }
+    ensures refused { IfOk result (λ answer. RefusedAs (selection_check (shape_of desc.now.dims) slices.now) answer) }
+    ensures valid { IfOk result (λ answer. StaysValidAt desc.now start answer) }
     ensures stands { IfOk result (λ answer. IfDone (λ made. (view : Layout) → Stands desc.now start view → Stands made.0 made.1 (selection_of view slices.now)) (given_by answer)) }
 {
     pybuf_index::slices_have_spans();

@@ -1,12 +1,13 @@
 //! Bytes in a shape, cut and turned.
-ghost use Rattle.std.specs.Prelude.{◌≡◌, ℕ, ◌<◌, length, IfOk};
-ghost use Rattle.pybuf_value.specs.Halting.{given_by, refusal_of};
+ghost use Rattle.std.specs.Prelude.{◌≡◌, ◌<◌, length, IfOk};
+ghost use Rattle.pybuf_value.specs.Halting.{given_by};
 ghost use Rattle.pybuf_value.specs.Refusing.{IfDone};
 ghost use Rattle.pybuf_desc.specs.Layouts.{product, LiesInside};
 ghost use Rattle.pybuf_nd.specs.Selections.{selection_of, selection_check};
 ghost use Rattle.pybuf_nd.specs.Axes.{transposition_of, order_check};
 ghost use Rattle.pybuf_nd_lines.specs.Shapes.{IsShape};
 ghost use Rattle.pybuf_nd_lines.specs.Selections.{bytes_in_shape};
+ghost use Rattle.pybuf_nd.specs.Answering.{RefusedAs, StaysInside};
 
 use pybuf_desc::KeptFormat;
 use pybuf_index::SaturatedSlice;
@@ -31,9 +32,9 @@ pub(crate) fn in_shape(alloc: Global, count: usize, shape: &[usize]) -> Made<Kep
 pub(crate) fn cut(alloc: Global, view: &KeptLayout, slices: &[SaturatedSlice]) -> Tried<KeptLayout>
     requires some_dimension { 0 < length view.now.shape }
     requires one_each { length slices.now ≡ length view.now.shape }
-    ensures refused { IfOk result (λ answer. refusal_of (given_by answer) ≡ refusal_of (selection_check view.now.shape slices.now)) }
+    ensures refused { IfOk result (λ answer. RefusedAs (selection_check view.now.shape slices.now) answer) }
     ensures cut { IfOk result (λ answer. IfDone (λ made. made ≡ selection_of view.now slices.now) (given_by answer)) }
-    ensures inside { IfOk result (λ answer. IfDone (λ made. (room : ℕ) → LiesInside room view.now → LiesInside room made) (given_by answer)) }
+    ensures inside { IfOk result (λ answer. StaysInside view.now answer) }
 {
     pybuf_desc::descriptors_stand_for_one_view();
     pybuf_desc::valid_where_items_lie_inside();
@@ -49,9 +50,9 @@ pub(crate) fn cut(alloc: Global, view: &KeptLayout, slices: &[SaturatedSlice]) -
 
 /// The transposition.
 pub(crate) fn turn(alloc: Global, view: &KeptLayout) -> Tried<KeptLayout>
-    ensures refused { IfOk result (λ answer. refusal_of (given_by answer) ≡ refusal_of (order_check view.now.shape)) }
+    ensures refused { IfOk result (λ answer. RefusedAs (order_check view.now.shape) answer) }
     ensures turned { IfOk result (λ answer. IfDone (λ made. made ≡ transposition_of view.now) (given_by answer)) }
-    ensures inside { IfOk result (λ answer. IfDone (λ made. (room : ℕ) → LiesInside room view.now → LiesInside room made) (given_by answer)) }
+    ensures inside { IfOk result (λ answer. StaysInside view.now answer) }
 {
     pybuf_desc::descriptors_stand_for_one_view();
     pybuf_desc::valid_where_items_lie_inside();

@@ -5,14 +5,14 @@ use std::alloc::Global;
 /// A source with a copy of the bytes that were taken of it. Where there is no memory for the copy, nothing is kept, and the bytes are
 /// taken all the same.
 #[derive(Drop)]
-pub struct KeptSource<S: Source> {
+pub(crate) struct KeptSource<S: Source> {
     source: S,
     kept: Option<Vec<u8>>,
 }
 
 impl<S: Source> KeptSource<S> {
     /// The source, of which nothing was taken yet.
-    pub fn new(alloc: Global, source: S) -> KeptSource<S> {
+    pub(crate) fn new(alloc: Global, source: S) -> KeptSource<S> {
         KeptSource {
             source,
             kept: Some(Vec::new(alloc)),
@@ -20,7 +20,7 @@ impl<S: Source> KeptSource<S> {
     }
 
     /// All bytes that were taken, or none where they weren't kept.
-    pub fn taken(&self) -> Option<&[u8]> {
+    pub(crate) fn taken(&self) -> Option<&[u8]> {
         match &self.kept {
             Some(bytes) => Some(bytes.as_slice()),
             None => None,

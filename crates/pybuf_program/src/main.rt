@@ -3,13 +3,8 @@
 //! says which word of the command line, line of the input or byte of the data is at fault, and what would be right.
 #![tactic(auto)]
 
-mod data;
 mod kept;
-mod lines;
-mod names;
-mod nearest;
 mod told;
-mod usage;
 
 use crate::kept::KeptSource;
 use crate::told::{complaint, meaning};

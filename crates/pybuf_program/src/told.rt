@@ -1,15 +1,11 @@
 //! What is told on standard error: what is wrong, and what would be right.
-use crate::{data, lines, usage};
 use pybuf_cli::Status;
-use pybuf_line::push_decimal;
-use pybuf_value::{Made, Text, push_quoted};
+use pybuf_messages::{push_wrong_length, push_wrong_line, push_wrong_word};
+use pybuf_value::{Made, Text};
 use std::alloc::Global;
 
-/// So many bytes of a line or of a word are shown at most.
-const SHOWN: usize = 60;
-
 /// What a status means, where neither the words nor the input have to be shown.
-pub fn meaning(status: Status) -> Option<&'static str> {
+pub(crate) fn meaning(status: Status) -> Option<&'static str> {
     match status {
         Status::Done => None,
         Status::BadLine => Some("a line of the input is no command"),
@@ -23,33 +19,27 @@ pub fn meaning(status: Status) -> Option<&'static str> {
     }
 }
 
-/// Adds the first bytes of a text between quotes, as replies write them, and dots where there are more.
-pub fn push_shown(out: &mut Vec<u8>, text: &[u8]) -> Made<()> {
-    push_quoted(out, &text[..text.len().min(SHOWN)])?;
-    if text.len() > SHOWN {
-        out.extend_from_slice(b"..")?;
+/// Adds which line or which byte of the input is at fault, and says whether that is known.
+fn push_wrong_input(
+    alloc: Global,
+    out: &mut Vec<u8>,
+    words: &[Text],
+    status: Status,
+    input: &[u8],
+) -> Made<bool> {
+    match status {
+        Status::BadLine => push_wrong_line(alloc, out, words, input),
+        Status::BadData => push_wrong_length(alloc, out, words, input),
+        _ => Ok(false),
     }
-    Ok(())
 }
 
-/// Adds a number with what is counted, whose name gets an `s` where there isn't one of it.
-pub fn push_count(out: &mut Vec<u8>, count: usize, what: &[u8]) -> Made<()> {
-    push_decimal(out, count as u64)?;
-    out.push(b' ')?;
-    out.extend_from_slice(what)?;
-    if count != 1 {
-        out.push(b's')?;
+/// Adds what a status means, and a line feed.
+fn push_meaning(out: &mut Vec<u8>, status: Status) -> Made<()> {
+    if let Some(text) = meaning(status) {
+        out.extend_from_slice(text.as_bytes())?;
     }
-    Ok(())
-}
-
-/// Adds the name that was meant, where one is near.
-pub fn push_near(out: &mut Vec<u8>, near: Option<&'static str>) -> Made<()> {
-    if let Some(name) = near {
-        out.extend_from_slice(b"; did you mean `")?;
-        out.extend_from_slice(name.as_bytes())?;
-        out.extend_from_slice(b"`?")?;
-    }
+    out.push(b'\n')?;
     Ok(())
 }
 
@@ -61,30 +51,20 @@ fn push_reason(
     status: Status,
     input: Option<&[u8]>,
 ) -> Made<()> {
-    match (status, input) {
-        (Status::Usage, _) => return usage::push_fault(alloc, out, words),
-        (Status::BadLine, Some(input)) => {
-            if lines::push_fault(alloc, out, words, input)? {
-                return Ok(());
-            }
-        }
-        (Status::BadData, Some(input)) => {
-            if data::push_fault(alloc, out, words, input)? {
-                return Ok(());
-            }
-        }
-        _ => {}
+    if status == Status::Usage {
+        return push_wrong_word(alloc, out, words);
     }
-    if let Some(text) = meaning(status) {
-        out.extend_from_slice(text.as_bytes())?;
+    if let Some(input) = input {
+        if push_wrong_input(alloc, out, words, status, input)? {
+            return Ok(());
+        }
     }
-    out.push(b'\n')?;
-    Ok(())
+    push_meaning(out, status)
 }
 
 /// What is told where a run of the program ended with a status: nothing where all was done, and else lines of which the first begins
 /// with the program's name and says what is wrong.
-pub fn complaint(
+pub(crate) fn complaint(
     alloc: Global,
     words: &[Text],
     status: Status,

@@ -1,7 +1,8 @@
-//! The names that lines are made of, and how each line is written.
+//! The names that lines are made of, and how each line is written. `tools/check_names.py` compares them with the grammar.
+use pybuf_line::is_word;
 
 /// Each command with the words of its line.
-pub fn commands() -> [(&'static str, &'static str); 39] {
+pub(crate) fn commands() -> [(&'static str, &'static str); 39] {
     [
         ("new", "new KIND [SOURCE [ENC [ERR]]]"),
         ("view", "view HANDLE"),
@@ -46,7 +47,7 @@ pub fn commands() -> [(&'static str, &'static str); 39] {
 }
 
 /// Each operation on a typed array with the words of its line.
-pub fn operations() -> [(&'static str, &'static str); 17] {
+pub(crate) fn operations() -> [(&'static str, &'static str); 17] {
     [
         ("append", "append N"),
         ("extend", "extend [N,..]"),
@@ -69,12 +70,12 @@ pub fn operations() -> [(&'static str, &'static str); 17] {
 }
 
 /// The kinds of exporters.
-pub fn kinds() -> [&'static str; 4] {
+pub(crate) fn kinds() -> [&'static str; 4] {
     ["bytes", "bytearray", "vector", "rovector"]
 }
 
 /// The properties of exporters and views.
-pub fn properties() -> [&'static str; 13] {
+pub(crate) fn properties() -> [&'static str; 13] {
     [
         "exports",
         "obj",
@@ -93,12 +94,12 @@ pub fn properties() -> [&'static str; 13] {
 }
 
 /// The operators that compare.
-pub fn operators() -> [&'static str; 6] {
+pub(crate) fn operators() -> [&'static str; 6] {
     ["==", "!=", "<", "<=", ">", ">="]
 }
 
 /// The methods of bytes.
-pub fn methods() -> [&'static str; 45] {
+pub(crate) fn methods() -> [&'static str; 45] {
     [
         "add",
         "concat",
@@ -149,7 +150,7 @@ pub fn methods() -> [&'static str; 45] {
 }
 
 /// The first words behind the name of the program, each with those behind it.
-pub fn forms() -> [(&'static str, &'static str); 6] {
+pub(crate) fn forms() -> [(&'static str, &'static str); 6] {
     [
         ("run", "run"),
         ("share", "share"),
@@ -158,4 +159,24 @@ pub fn forms() -> [(&'static str, &'static str); 6] {
         ("table", "table FORMAT [K OP N]"),
         ("nd", "nd SHAPE KEY [T]"),
     ]
+}
+
+/// Whether a text is one of some names.
+pub(crate) fn is_one_of(text: &[u8], names: &[&'static str]) -> bool {
+    for name in names {
+        if is_word(text, name) {
+            return true;
+        }
+    }
+    false
+}
+
+/// Whether a text is the first of some pairs.
+pub(crate) fn is_first_of(text: &[u8], pairs: &[(&'static str, &'static str)]) -> bool {
+    for (name, _) in pairs {
+        if is_word(text, name) {
+            return true;
+        }
+    }
+    false
 }

@@ -46,7 +46,11 @@ impl Candidate {
 
 /// The name that takes the fewest changes of single letters to make a word of it, the first of several. None where each takes more
 /// than two, or as many as the word has letters.
-pub fn nearest(alloc: Global, word: &[u8], names: &[&'static str]) -> Made<Option<&'static str>> {
+pub(crate) fn nearest(
+    alloc: Global,
+    word: &[u8],
+    names: &[&'static str],
+) -> Made<Option<&'static str>> {
     let Some(text) = text_of(word) else {
         return Ok(None);
     };
@@ -58,7 +62,7 @@ pub fn nearest(alloc: Global, word: &[u8], names: &[&'static str]) -> Made<Optio
 }
 
 /// The same of the first texts of some pairs.
-pub fn nearest_first(
+pub(crate) fn nearest_first(
     alloc: Global,
     word: &[u8],
     pairs: &[(&'static str, &'static str)],

@@ -1,24 +1,29 @@
 //! Which of the words behind the program's name is at fault, and the forms that there are.
-use crate::names::{forms, operators};
-use crate::nearest::nearest;
-use crate::told::{push_near, push_shown};
+use crate::names::{forms, is_first_of, is_one_of, operators};
+use crate::nearest::nearest_first;
+use crate::texts::{push_near, push_shown_text, push_text};
 use pybuf_line::{is_word, word_number};
 use pybuf_nd_lines::selection_of_words;
 use pybuf_table_lines::listing_of_words;
 use pybuf_value::{Made, Text};
 use std::alloc::Global;
 
+/// Adds how a form of words is written, with its input where it reads one.
+fn push_form(out: &mut Vec<u8>, name: &'static str, written: &'static str) -> Made<()> {
+    push_text(out, b"       pybuf ")?;
+    push_text(out, written.as_bytes())?;
+    if name != "make" {
+        push_text(out, b" < input")?;
+    }
+    push_text(out, b"\n")
+}
+
 /// Adds all forms of words, a line each.
 fn push_forms(out: &mut Vec<u8>) -> Made<()> {
-    out.extend_from_slice(b"usage: pybuf [run] < input\n")?;
-    for (name, form) in forms() {
+    push_text(out, b"usage: pybuf [run] < input\n")?;
+    for (name, written) in forms() {
         if name != "run" {
-            out.extend_from_slice(b"       pybuf ")?;
-            out.extend_from_slice(form.as_bytes())?;
-            if name != "make" {
-                out.extend_from_slice(b" < input")?;
-            }
-            out.push(b'\n')?;
+            push_form(out, name, written)?;
         }
     }
     Ok(())
@@ -26,18 +31,34 @@ fn push_forms(out: &mut Vec<u8>) -> Made<()> {
 
 /// Adds a word and what is wrong with it.
 fn push_word(out: &mut Vec<u8>, word: &Text, what: &[u8]) -> Made<()> {
-    push_shown(out, word.as_slice())?;
-    out.extend_from_slice(what)?;
-    Ok(())
+    push_shown_text(out, word.as_slice(), what)
+}
+
+/// Adds a name between back quotes, behind what stands before it.
+fn push_name(out: &mut Vec<u8>, before: &[u8], name: &'static str) -> Made<()> {
+    push_text(out, before)?;
+    push_text(out, name.as_bytes())?;
+    push_text(out, b"`")
+}
+
+/// Adds two names or more between back quotes, with commas and, before the last, with `and`.
+fn push_names(out: &mut Vec<u8>, names: &[&'static str]) -> Made<()> {
+    let [first, middle @ .., last] = names else {
+        return Ok(());
+    };
+    push_name(out, b"`", first)?;
+    for name in middle {
+        push_name(out, b", `", name)?;
+    }
+    push_name(out, b" and `", last)
 }
 
 /// Adds that a form takes other words behind it.
 fn push_taken(out: &mut Vec<u8>, form: &'static str, taken: &[u8]) -> Made<()> {
-    out.push(b'`')?;
-    out.extend_from_slice(form.as_bytes())?;
-    out.extend_from_slice(b"` takes ")?;
-    out.extend_from_slice(taken)?;
-    Ok(())
+    push_text(out, b"`")?;
+    push_text(out, form.as_bytes())?;
+    push_text(out, b"` takes ")?;
+    push_text(out, taken)
 }
 
 /// Adds which of the words behind `table` is wrong.
@@ -60,19 +81,14 @@ fn push_table_fault(alloc: Global, out: &mut Vec<u8>, words: &[Text]) -> Made<()
                             b" is no number of a field, which are counted from 0",
                         );
                     }
-                    for name in operators() {
-                        if is_word(operator.as_slice(), name) {
-                            out.extend_from_slice(
-                                b"the format has no such field, no order is asked of bytes, or the last word is no whole number",
-                            )?;
-                            return Ok(());
-                        }
+                    if is_one_of(operator.as_slice(), &operators()) {
+                        return push_text(
+                            out,
+                            b"the format has no such field, no order is asked of bytes, or the last word is no whole number",
+                        );
                     }
-                    push_word(
-                        out,
-                        operator,
-                        b" is none of `==`, `!=`, `<`, `<=`, `>` and `>=`",
-                    )
+                    push_shown_text(out, operator.as_slice(), b" is none of ")?;
+                    push_names(out, &operators())
                 }
                 _ => push_taken(
                     out,
@@ -107,13 +123,12 @@ fn push_nd_fault(alloc: Global, out: &mut Vec<u8>, words: &[Text]) -> Made<()> {
 fn push_shape_fault(out: &mut Vec<u8>, words: &[Text]) -> Made<()> {
     match words {
         [shape, key, ..] => {
-            push_shown(out, shape.as_slice())?;
-            out.extend_from_slice(b" and ")?;
-            push_shown(out, key.as_slice())?;
-            out.extend_from_slice(
+            push_shown_text(out, shape.as_slice(), b" and ")?;
+            push_shown_text(
+                out,
+                key.as_slice(),
                 b" are no shape, as `[2,3]`, with a tuple of as many slices, as `(0:1:1,None:None:2)`",
-            )?;
-            Ok(())
+            )
         }
         _ => Ok(()),
     }
@@ -147,32 +162,26 @@ fn push_argument_fault(alloc: Global, out: &mut Vec<u8>, form: &Text, words: &[T
             _ => push_taken(out, "array", b"one code behind it"),
         };
     }
-    push_shown(out, form.as_slice())?;
-    out.extend_from_slice(b" takes no word behind it")?;
-    Ok(())
+    push_shown_text(out, form.as_slice(), b" takes no word behind it")
 }
 
-/// Adds which of the words is wrong, and the forms that there are.
-pub fn push_fault(alloc: Global, out: &mut Vec<u8>, words: &[Text]) -> Made<()> {
-    let names = forms().map(|pair| pair.0);
-    match words {
-        [form, rest @ ..] => {
-            let mut is_known = false;
-            for name in names {
-                if is_word(form.as_slice(), name) {
-                    is_known = true;
-                }
-            }
-            if is_known {
-                push_argument_fault(alloc, out, form, rest)?;
-            } else {
-                push_shown(out, form.as_slice())?;
-                out.extend_from_slice(b" is no form of words")?;
-                push_near(out, nearest(alloc, form.as_slice(), &names)?)?;
-            }
-        }
-        [] => out.extend_from_slice(b"a word is no UTF-8")?,
+/// Adds that the first word is no form, or which of those behind it is wrong.
+fn push_form_fault(alloc: Global, out: &mut Vec<u8>, form: &Text, words: &[Text]) -> Made<()> {
+    if is_first_of(form.as_slice(), &forms()) {
+        return push_argument_fault(alloc, out, form, words);
     }
-    out.push(b'\n')?;
+    push_shown_text(out, form.as_slice(), b" is no form of words")?;
+    push_near(out, nearest_first(alloc, form.as_slice(), &forms())?)
+}
+
+/// Adds which of the words of the program is wrong, and the forms that there are.
+///
+/// Example: of the one word `shar` it adds that it is no form of words and that `share` may be meant, and then the forms.
+pub fn push_wrong_word(alloc: Global, out: &mut Vec<u8>, words: &[Text]) -> Made<()> {
+    match words {
+        [form, rest @ ..] => push_form_fault(alloc, out, form, rest)?,
+        [] => push_text(out, b"a word is no UTF-8")?,
+    }
+    push_text(out, b"\n")?;
     push_forms(out)
 }

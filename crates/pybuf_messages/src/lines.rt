@@ -1,7 +1,7 @@
 //! Which line of the input is at fault, and which word of it.
-use crate::names::{commands, kinds, methods, operations, operators, properties};
+use crate::names::{commands, is_one_of, kinds, methods, operations, operators, properties};
 use crate::nearest::{nearest, nearest_first};
-use crate::told::{push_near, push_shown};
+use crate::texts::{push_near, push_shown_text, push_text};
 use pybuf_array_lines::check_operations;
 use pybuf_line::{
     Misread, Unread, check_lines, fill_words, is_word, next_line, push_decimal, value, word_number,
@@ -42,30 +42,18 @@ fn is_value(alloc: Global, word: &[u8]) -> Made<bool> {
     }
 }
 
-/// Whether a text is one of some names.
-fn is_one_of(text: &[u8], names: &[&'static str]) -> bool {
-    for name in names {
-        if is_word(text, name) {
-            return true;
-        }
-    }
-    false
-}
-
 /// Adds that a word isn't what it should be, with the name that was meant, where one is near.
 fn push_wrong(out: &mut Vec<u8>, word: &[u8], what: &[u8], near: Option<&'static str>) -> Made<()> {
-    push_shown(out, word)?;
-    out.extend_from_slice(b" is no ")?;
-    out.extend_from_slice(what)?;
+    push_shown_text(out, word, b" is no ")?;
+    push_text(out, what)?;
     push_near(out, near)
 }
 
 /// Adds how a line of a first word is written.
 fn push_written(out: &mut Vec<u8>, written: &'static str) -> Made<()> {
-    out.extend_from_slice(b"it is written `")?;
-    out.extend_from_slice(written.as_bytes())?;
-    out.push(b'`')?;
-    Ok(())
+    push_text(out, b"it is written `")?;
+    push_text(out, written.as_bytes())?;
+    push_text(out, b"`")
 }
 
 /// Adds the first of some words that is no value, or how the line is written where each is one.
@@ -77,8 +65,7 @@ fn push_wrong_value(
 ) -> Made<()> {
     for word in words {
         if !is_value(alloc, word)? {
-            push_shown(out, word)?;
-            out.extend_from_slice(b" is no value; ")?;
+            push_shown_text(out, word, b" is no value; ")?;
             return push_written(out, written);
         }
     }
@@ -147,6 +134,18 @@ fn is_subject(word: &[u8], in_session: bool) -> bool {
     }
 }
 
+/// Adds that a word names nothing that a command may be told to.
+fn push_wrong_subject(out: &mut Vec<u8>, word: &[u8], in_session: bool) -> Made<()> {
+    if in_session {
+        return push_shown_text(
+            out,
+            word,
+            b" is no name of a session, which are `own`, `m0`, `i0` and so on",
+        );
+    }
+    push_shown_text(out, word, b" is no handle, which are `h0`, `h1` and so on")
+}
+
 /// Adds what is wrong with the words of a command.
 fn push_command_fault(
     alloc: Global,
@@ -155,8 +154,7 @@ fn push_command_fault(
     in_session: bool,
 ) -> Made<()> {
     let [first, rest @ ..] = words else {
-        out.extend_from_slice(b"a command is missing")?;
-        return Ok(());
+        return push_text(out, b"a command is missing");
     };
     let Some(written) = written_of(first, &commands()) else {
         let near = nearest_first(alloc, first, &commands())?;
@@ -164,8 +162,7 @@ fn push_command_fault(
     };
     if is_word(first, "new") {
         if in_session {
-            out.extend_from_slice(b"`new` stands on the first line alone")?;
-            return Ok(());
+            return push_text(out, b"`new` stands on the first line alone");
         }
         return push_wrong_argument(alloc, out, first, rest, written);
     }
@@ -175,15 +172,7 @@ fn push_command_fault(
             if is_subject(subject, in_session) {
                 return push_wrong_argument(alloc, out, first, arguments, written);
             }
-            push_shown(out, subject)?;
-            if in_session {
-                out.extend_from_slice(
-                    b" is no name of a session, which are `own`, `m0`, `i0` and so on",
-                )?;
-            } else {
-                out.extend_from_slice(b" is no handle, which are `h0`, `h1` and so on")?;
-            }
-            Ok(())
+            push_wrong_subject(out, subject, in_session)
         }
     }
 }
@@ -191,8 +180,7 @@ fn push_command_fault(
 /// Adds what is wrong with the words of an operation on a typed array.
 fn push_operation_fault(alloc: Global, out: &mut Vec<u8>, words: &[&[u8]]) -> Made<()> {
     let [first, rest @ ..] = words else {
-        out.extend_from_slice(b"an operation is missing")?;
-        return Ok(());
+        return push_text(out, b"an operation is missing");
     };
     match written_of(first, &operations()) {
         Some(written) => push_wrong_value(alloc, out, rest, written),
@@ -203,31 +191,26 @@ fn push_operation_fault(alloc: Global, out: &mut Vec<u8>, words: &[&[u8]]) -> Ma
     }
 }
 
+/// Whether a word is the number of a session.
+fn is_session(word: &[u8]) -> bool {
+    match word_number(word) {
+        Some(number) => number < 16,
+        None => false,
+    }
+}
+
 /// Adds what is wrong with the words of a line of a session. The first line opens the exporter.
 fn push_session_fault(alloc: Global, out: &mut Vec<u8>, words: &[&[u8]], number: u64) -> Made<()> {
     if number == 1 {
-        out.extend_from_slice(b"the first line is written `new KIND xHEX`")?;
-        return Ok(());
+        return push_text(out, b"the first line is written `new KIND xHEX`");
     }
     let [session, command @ ..] = words else {
-        out.extend_from_slice(b"a session is missing")?;
-        return Ok(());
+        return push_text(out, b"a session is missing");
     };
-    match word_number(session) {
-        Some(number) => {
-            if number < 16 {
-                return push_command_fault(alloc, out, command, true);
-            }
-            push_shown(out, session)?;
-            out.extend_from_slice(b" is no session, which have numbers below 16")?;
-            Ok(())
-        }
-        None => {
-            push_shown(out, session)?;
-            out.extend_from_slice(b" is no session, which have numbers below 16")?;
-            Ok(())
-        }
+    if is_session(session) {
+        return push_command_fault(alloc, out, command, true);
     }
+    push_shown_text(out, session, b" is no session, which have numbers below 16")
 }
 
 /// What the lines of an input are.
@@ -266,6 +249,37 @@ fn first_wrong(alloc: Global, lines: Lines, input: &[u8]) -> Made<Option<u64>> {
     }
 }
 
+/// Whether one of the words is empty.
+fn has_empty(words: &[&[u8]]) -> bool {
+    for word in words {
+        if word.is_empty() {
+            return true;
+        }
+    }
+    false
+}
+
+/// Adds what is wrong with the words of a line.
+fn push_words_fault(
+    alloc: Global,
+    out: &mut Vec<u8>,
+    lines: Lines,
+    words: &[&[u8]],
+    number: u64,
+) -> Made<()> {
+    if has_empty(words) {
+        return push_text(
+            out,
+            b"one blank stands between words, and none before the first or behind the last",
+        );
+    }
+    match lines {
+        Lines::Commands => push_command_fault(alloc, out, words, false),
+        Lines::Operations => push_operation_fault(alloc, out, words),
+        Lines::Sessions => push_session_fault(alloc, out, words, number),
+    }
+}
+
 /// Adds what is wrong with a line.
 fn push_line_fault(
     alloc: Global,
@@ -275,39 +289,42 @@ fn push_line_fault(
     number: u64,
 ) -> Made<()> {
     if line.is_empty() {
-        out.extend_from_slice(b"it is empty")?;
-        return Ok(());
+        return push_text(out, b"it is empty");
     }
     let mut words = Vec::new(alloc);
     fill_words(&mut words, line)?;
-    for word in words.as_slice() {
-        if word.is_empty() {
-            out.extend_from_slice(
-                b"one blank stands between words, and none before the first or behind the last",
-            )?;
-            return Ok(());
-        }
-    }
-    match lines {
-        Lines::Commands => push_command_fault(alloc, out, words.as_slice(), false),
-        Lines::Operations => push_operation_fault(alloc, out, words.as_slice()),
-        Lines::Sessions => push_session_fault(alloc, out, words.as_slice(), number),
-    }
+    push_words_fault(alloc, out, lines, words.as_slice(), number)
 }
 
-/// Adds the first line that is wrong and what is wrong with it, and says whether there is one.
-pub fn push_fault(alloc: Global, out: &mut Vec<u8>, words: &[Text], input: &[u8]) -> Made<bool> {
+/// Adds a line with its number, and what is wrong with it.
+fn push_numbered_fault(
+    alloc: Global,
+    out: &mut Vec<u8>,
+    lines: Lines,
+    line: &[u8],
+    number: u64,
+) -> Made<()> {
+    push_text(out, b"line ")?;
+    push_decimal(out, number)?;
+    push_text(out, b" is ")?;
+    push_shown_text(out, line, b": ")?;
+    push_line_fault(alloc, out, lines, line, number)?;
+    push_text(out, b"\n")
+}
+
+/// Adds the first line that is wrong and what is wrong with it, by the words of the program, and says whether there is one.
+///
+/// Example: without words, of the input `b"lenn h0\n"`, it adds that `lenn` is no command and that `len` may be meant, and gives `true`.
+pub fn push_wrong_line(
+    alloc: Global,
+    out: &mut Vec<u8>,
+    words: &[Text],
+    input: &[u8],
+) -> Made<bool> {
     let lines = lines_of(words);
     let Some(number) = first_wrong(alloc, lines, input)? else {
         return Ok(false);
     };
-    let line = line_at(input, number);
-    out.extend_from_slice(b"line ")?;
-    push_decimal(out, number)?;
-    out.extend_from_slice(b" is ")?;
-    push_shown(out, line)?;
-    out.extend_from_slice(b": ")?;
-    push_line_fault(alloc, out, lines, line, number)?;
-    out.push(b'\n')?;
+    push_numbered_fault(alloc, out, lines, line_at(input, number), number)?;
     Ok(true)
 }
