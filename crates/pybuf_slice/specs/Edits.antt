@@ -122,14 +122,17 @@ ReplacesRange {X} R items range old new = (copies : List X) × AllZip R items co
 abbrev pub SetsIndices : {X : Type 0} → (X → X → Type 0) → List X → List ℕ → List X → List X → Type 0
 SetsIndices {X} R items indices old new = (copies : List X) × AllZip R items copies × (new ≡ set_at old indices copies)
 
+-- copies of the items stand in place of the elements of a slice
+abbrev pub AssignsSlice : {X : Type 0} → (X → X → Type 0) → List X → SliceParts → List X → List X → Type 0
+AssignsSlice {X} R items slice old new = (copies : List X) × AllZip R items copies × (new ≡ assigned_list old slice copies)
+
 -- one fact where memory sufficed and an edit was made, another where it was refused
 abbrev pub OnOutcome : {A E : Type 0} → Result (Outcome A) E → Type 0 → Type 0 → Type 0
 OnOutcome result Made Kept = IfOk result (λ given. MatchOutcome given Made Kept)
 
--- copies of the items stand in place of the elements of a slice; after a refusal the list is as before
+-- the same of a call: after a refusal the list is as before
 abbrev pub Assigns : {X A E : Type 0} → Result (Outcome A) E → (X → X → Type 0) → List X → SliceParts → List X → List X → Type 0
-Assigns {X} result R items slice old new =
-    OnOutcome result ((copies : List X) × AllZip R items copies × (new ≡ assigned_list old slice copies)) (new ≡ old)
+Assigns result R items slice old new = OnOutcome result (AssignsSlice R items slice old new) (new ≡ old)
 
 -- the same of an edit that leaves the length as it is
 abbrev pub AssignsPicks : {X A E : Type 0} → Result (Outcome A) E → (X → X → Type 0) → List X → SliceParts → List X → List X → Type 0
