@@ -65,6 +65,9 @@ IsAscii-lower_digits = ascii_by_test lower_digits refl
 digits_ascii : (bytes : List ℕ) → IsAscii (encode_lower bytes)
 digits_ascii bytes = IsAscii-encode_with lower_digits bytes IsAscii-lower_digits
 
+pub digits_utf8 : (bytes : List ℕ) → IsUtf8 (encode_lower bytes)
+digits_utf8 bytes = IsUtf8-from_ascii (encode_lower bytes) (digits_ascii bytes)
+
 groups_ascii : (separator : ℕ) (groups : List (List ℕ)) → separator < 128 → IsAscii (flat_map (behind separator) groups)
 groups_ascii separator [] small = IsAscii-nil
 groups_ascii separator (group ∷ groups) small =

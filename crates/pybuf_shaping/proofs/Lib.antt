@@ -1,6 +1,7 @@
 pub mod GroupLemmas
 pub mod DigitValues
 pub mod ReadLemmas
+pub mod FrontLemmas
 pub mod TableLemmas
 pub mod PadLemmas
 pub mod TabLemmas

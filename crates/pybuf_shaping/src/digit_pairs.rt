@@ -5,6 +5,7 @@ ghost use Rattle.pybuf_letters.specs.Classes.{is_blank};
 ghost use Rattle.pybuf_value.specs.Halting.{Gives, outcome_of};
 ghost use Rattle.pybuf_shaping.specs.Digits as spec;
 
+use pybuf_lanes::read_digits;
 use pybuf_letters::is_py_ascii_whitespace;
 use pybuf_value::{ByteList, Fault, Halt, Tried, tried};
 use std::alloc::Global;
@@ -34,16 +35,16 @@ fn digit_value(digit: u8) -> u8
         \x10\x10\x10\x10\x10\x10\x10\x10\x10\x10\x10\x10\x10\x10\x10\x10"[digit as usize]
 }
 
-/// Writes the bytes of pairs of digits to the front of a room, and gives how many they are. Whether a byte
-/// is a blank is asked only where it is no digit.
+/// Writes the bytes of pairs of digits to the front of a room, and gives how many they are. Pairs that the text begins
+/// with are read by lanes. Behind them, whether a byte is a blank is asked only where it is no digit.
 fn write_pairs(room: &mut [u8], text: &[u8]) -> Result<usize, Fault>
     requires { length room.old ≡ length text.now / 2 }
     ensures bytes { MatchResult result (λ count. spec.bytes_of_hex text.now ≡ Ok (take count room.new)) (λ f. spec.bytes_of_hex text.now ≡ Err f) }
     ensures inside { IfOk result (λ count. count ≤ length room.new) }
     ensures same_length { length room.new ≡ length room.old }
 {
-    let mut count = 0;
-    let mut at = 0;
+    let mut count = read_digits(text, room);
+    let mut at = 2 * count;
     while at < text.len() {
         let high = digit_value(text[at]);
         if high > 15 {

@@ -7,6 +7,7 @@ ghost use Rattle.pybuf_value.specs.Halting.{Gives, outcome_of};
 ghost use Rattle.pybuf_value.specs.Texts.{fitted};
 ghost use Rattle.pybuf_shaping.specs.Digits as spec;
 
+use pybuf_lanes::write_digits;
 use pybuf_value::{Fault, Halt, Made, Text, Tried, tried};
 use std::alloc::Global;
 
@@ -17,8 +18,7 @@ fn push_digits(out: &mut Vec<u8>, bytes: &[u8]) -> Made<()>
 {
     let start = out.len();
     out.resize(start + 2 * bytes.len(), 0)?;
-    // the room is twice as long as the bytes, so this is never refused
-    let _ = hex::encode_to_slice(bytes, &mut out.as_mut_slice()[start..]);
+    write_digits(bytes, &mut out.as_mut_slice()[start..]);
     Ok(())
 }
 
@@ -50,7 +50,9 @@ fn plain_text(alloc: Global, bytes: &[u8]) -> Result<Text, Halt>
     if bytes.len() > isize::MAX as usize / 2 {
         return Err(Halt::Refused(Fault::Overflow));
     }
-    Ok(Text::from_string(hex::encode(alloc, bytes)?))
+    let mut text = Vec::with_capacity(alloc, 2 * bytes.len())?;
+    push_digits(&mut text, bytes)?;
+    Ok(Text::from_utf8(text))
 }
 
 /// The digits of a first group of bytes and of so many further ones, in room that is taken once.

@@ -1,7 +1,8 @@
 use Rattle.std.proofs.Common.{◌<◌, ◌+◌, ◌*◌, length, slice_index, take, drop, arith, ap, sym, ◌∙◌}
 use Rattle.std.proofs.lemmas.List.{take_more_set, length-set}
 use Rattle.pybuf_shaping.specs.Digits.{bytes_of_hex}
-use Rattle.pybuf_shaping.proofs.ReadLemmas.{bytes_before, nothing_before, blank_step, pair_step, bad_step, refused_behind, byte_of_values, value_refused}
+use Rattle.pybuf_shaping.proofs.ReadLemmas.{bytes_before, blank_step, pair_step, bad_step, refused_behind, byte_of_values, value_refused}
+use Rattle.pybuf_shaping.proofs.FrontLemmas.{front_read}
 use Rattle.pybuf_shaping.proofs.digit_pairs.write_pairs.Goals as goal
 
 pub loop-at-preserved-then-is_py_ascii_whitespace : goal.loop-at-preserved-then-is_py_ascii_whitespace
@@ -37,8 +38,8 @@ loop-at-preserved c =
 
 pub loop-at-init : goal.loop-at-init
 loop-at-init c = record {
-  whole = nothing_before (bytes_of_hex c.args.text.now);
-  inside = omega arith;
+  whole = front_read c.args.text.now c.read_digits-count.new.room c.read_digits-count.result c.read_digits-count.ensures.digits c.read_digits-count.ensures.bytes c.read_digits-count.ensures.inside;
+  inside = omega (arith, c.read_digits-count.ensures.inside);
   counted = omega arith;
-  room = c.requires;
+  room = c.read_digits-count.ensures.same_length ∙ c.requires;
 }

@@ -1,0 +1,5 @@
+mod Maps
+mod DigitPairs
+mod Counts
+mod Runs
+mod Blocks

@@ -1,0 +1,12 @@
+use Rattle.std.proofs.Common.{◌%◌, ◌<◌, bit_and, sym, subst, refl, ◌∙◌}
+use Rattle.std.proofs.lemmas.Simd.{zip2_splat}
+use lib.Lanes.{Each1}
+use Rattle.pybuf_lanes.proofs.Maps.{at_each_byte, below_at_each_byte}
+use Rattle.pybuf_lanes.proofs.digits.low_lanes.Goals as goal
+
+pub returns-clause-value : goal.returns-clause-value
+returns-clause-value c =
+    zip2_splat bit_and c.args.bytes 16 15 c.fits-bytes.0 ∙ at_each_byte (λ b. bit_and b 15) (λ b. b % 16) refl c.args.bytes c.fits-bytes.1
+
+pub returns-clause-small : goal.returns-clause-small
+returns-clause-small c = subst (Each1 (λ n. n < 16)) (sym (returns-clause-value c)) (below_at_each_byte (λ b. b % 16) 16 refl c.args.bytes c.fits-bytes.1)
