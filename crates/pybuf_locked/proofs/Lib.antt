@@ -1,1 +1,1 @@
-pub mod Viewed
+pub mod Views

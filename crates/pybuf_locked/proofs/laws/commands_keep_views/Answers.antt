@@ -1,4 +1,4 @@
-use Rattle.pybuf_locked.proofs.Viewed.{kept}
+use Rattle.pybuf_locked.proofs.Views.{kept}
 use Rattle.pybuf_locked.proofs.laws.commands_keep_views.Goals as goal
 
 pub returns : goal.returns
