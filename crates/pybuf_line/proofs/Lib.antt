@@ -1,6 +1,5 @@
 pub mod Digits
 pub mod FirstByte
-pub mod Shorts
 pub mod Commands
 pub mod Spelled
 pub mod Cuts
