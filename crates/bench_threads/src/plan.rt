@@ -5,8 +5,10 @@ use std::env;
 use std::env::Env;
 
 /// What the threads of a run ask, and whom.
-#[derive(Clone, Copy, PartialEq, Eq)]
+#[derive(Clone, Copy)]
 pub enum Form {
+    /// All of the following, one after the other.
+    All,
     /// All ask one exporter that keeps a history.
     One,
     /// Each asks one of its own that keeps a history.
@@ -65,6 +67,7 @@ fn threads_of(words: &[String]) -> usize
 fn form_of(word: Option<&String>) -> Form {
     match word {
         Some(word) => match word.as_str() {
+            "all" => Form::All,
             "each" => Form::Each,
             "locked" => Form::Locked,
             "soak" => Form::Soak,

@@ -19,7 +19,7 @@ made_as_before v w (inr released) = ap (λ (x : View). x.made_at) released
 pub kept : LengthsStayUnderCommands → (view n : ℕ) (e : Exporter) (command : LocalCommand) → IsSoundExporter e → HasViewMadeAt view n e → HasViewMadeAt view n (stepped e command).0
 kept law view n e command sound has =
     let after = (law e command.subject command.verb command.loans sound).views view has.made has.given in
-    record { made = after.0; given = after.1.0; made_at = made_as_before has.made after.0 after.1.1 ∙ has.made_at }
+    record { made = after.0; given = after.1; made_at = made_as_before has.made after.0 after.2 ∙ has.made_at }
 
 All-slice_get : {X : Type 0} (P : X → Type 0) (xs : List X) (k : ℕ) (x : X) → All P xs → slice_get xs k ≡ Some x → P x
 All-slice_get P xs k x all at = subst P (get_or_from_slice_get xs k x x at) (all k x (slice_get_within xs k x at))

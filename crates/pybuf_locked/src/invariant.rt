@@ -15,7 +15,7 @@ pub trait Invariant: Drop {
 
 /// The invariant that holds of every exporter.
 /// Example: `LockedExporter::start(alloc, kind, bytes, Anything)` stands for an exporter of which nothing more is promised than of each.
-#[derive(Clone, Copy, Debug, PartialEq, Eq)]
+#[derive(Clone, Copy)]
 pub struct Anything;
 
 impl Invariant for Anything {

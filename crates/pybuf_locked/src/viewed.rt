@@ -7,7 +7,7 @@ use crate::invariant::Invariant;
 /// it (`commands_keep_views`). So whoever takes the lock while the view is unreleased finds the exporter as long as it
 /// was then (`viewed_exporters_keep_their_length`).
 /// Example: `ViewMadeAt { view: 0, length: 3 }` holds of a bytearray `b"abc"` of which one view was made.
-#[derive(Clone, Copy, Debug, PartialEq, Eq)]
+#[derive(Clone, Copy)]
 pub struct ViewMadeAt {
     /// The number of the view.
     pub view: usize,
