@@ -37,6 +37,11 @@ row_of_short : (file : List ℕ) → nat_le 64 (length file) ≡ false →
 unfolding codes_in layout_from format_after_prefix
 row_of_short file short = rw short refl
 
+-- The format of a header is a format.
+pub header_has_format : (f : Fault) → record_format (codes "<40xQ10xHHH") ≡ Err f → ⊥
+unfolding codes_in layout_from format_after_prefix
+header_has_format f same = cc
+
 row_of_head : (file : List ℕ) → header_row (take 64 file) ≡ header_row file
 unfolding header_row
 row_of_head file =
@@ -73,6 +78,15 @@ header_by file values false test is =
 
 pub is_header : (file : List ℕ) (values : List Scalar) → header_values_of file ≡ Ok values → IsHeader file values
 is_header file values is = header_by file values (nat_lt (length file) 64) refl is
+
+refused_by : (file : List ℕ) (f : Fault) (b : Bool) → nat_lt (length file) 64 ≡ b → header_values_of file ≡ Err f → (nat_lt (length file) 64 ≡ true) × (f ≡ fault.Struct)
+unfolding header_row
+refused_by file f true test is = let same : Err fault.Struct ≡ Err f = rw test at is in (test, cc)
+refused_by file f false test is = let bad : Ok (header_row file) ≡ Err f = rw test at is in cc
+
+-- A file without a header is refused.
+pub header_refused : (file : List ℕ) (f : Fault) → header_values_of file ≡ Err f → (nat_lt (length file) 64 ≡ true) × (f ≡ fault.Struct)
+header_refused file f is = refused_by file f (nat_lt (length file) 64) refl is
 
 -- ---- the format of a section
 

@@ -1,13 +1,14 @@
 -- What the formats of a log read.
 use Rattle.std.proofs.lemmas.List.{drop-take, length-take-le}
 use Rattle.std.specs.List.{All}
-use Rattle.std.specs.Prelude.{Bool, ◌-ℤ◌, nat_le, if◌then◌else◌, slice_index_or, FitsSigned}
+use Rattle.std.specs.Prelude.{nat_lt, Bool, ◌-ℤ◌, nat_le, if◌then◌else◌, slice_index_or, FitsSigned}
 use Rattle.std.specs.Int.{w8, w16}
 use Rattle.std.proofs.lemmas.List.{get_or_default}
 use Rattle.std.proofs.lemmas.Bool.{leb-true, leb-false, le-leb}
 use Rattle.std.proofs.lemmas.Int.{ints}
 use Rattle.std.proofs.lemmas.Bool.Decides.{nat_tests}
 use Rattle.std.proofs.lemmas.List.Elements.{All-take, All-drop}
+use Rattle.pybuf_value.specs.declared.faults.Fault.{Fault}
 use Rattle.pybuf_value.specs.declared.faults.Fault.TheVariants as fault
 use Rattle.example_users.proofs.DigitLemmas.{little_endian-below}
 use Rattle.std.proofs.Common.{Fits, Err, length-drop, ◌≡◌, ℕ, suc, zero, ◌+◌, ◌-◌, ◌*◌, ◌<◌, ◌≤◌, ◌^◌, ◌==◌, pos, true, false, List, [], ◌∷◌, length, take, drop, refl, arith, ap, sym, ◌∙◌, Ok, ℤ, codes}
@@ -21,6 +22,7 @@ use Rattle.pybuf_struct.specs.Offsets.{unpacked_from}
 use Rattle.pybuf_struct.specs.Values.{unpacked_values}
 use Rattle.pybuf_struct.specs.Singles.{values_by}
 use Rattle.pybuf_desc.specs.Items.{bytes_at}
+use Rattle.example_users.specs.Log.{header_of, reading_of}
 
 take_less : (m j : ℕ) (xs : List ℕ) → m ≤ j → take m (take j xs) ≡ take m xs
 take_less zero j xs less = refl
@@ -47,6 +49,11 @@ header_short : (file : List ℕ) → nat_le 10 (length file) ≡ false → (form
 unfolding codes_in layout_from format_after_prefix
 header_short file short = rw short refl
 
+-- The format of a header is a format.
+pub header_format : (f : Fault) → format_of (codes "<4xHI") ≡ Err f → ⊥
+unfolding codes_in layout_from format_after_prefix
+header_format f same = cc
+
 header_values_of : (file : List ℕ) → 10 ≤ length file → header_values (take 10 file) ≡ header_values file
 unfolding header_values
 header_values_of file long =
@@ -54,6 +61,20 @@ header_values_of file long =
 
 read_of : (file : List ℕ) (format : Format) → format_of (codes "<4xHI") ≡ Ok format → unpacked_from format 0 file ≡ (format_of (codes "<4xHI") >>= λ f. unpacked_from f 0 file)
 read_of file format parsed = ap (λ r. r >>= λ f. unpacked_from f 0 file) (sym parsed)
+
+refused_by : (file : List ℕ) (format : Format) (f : Fault) (b : Bool) → nat_le 10 (length file) ≡ b → format_of (codes "<4xHI") ≡ Ok format → unpacked_from format 0 file ≡ Err f → header_of file ≡ Err f
+refused_by file format f true test parsed read =
+    let given : Err f ≡ Ok (header_values (take 10 file)) = sym read ∙ (read_of file format parsed ∙ header_read file (leb-true 10 (length file) test)) in
+    absurd cc
+refused_by file format f false test parsed read =
+    let given = sym read ∙ (read_of file format parsed ∙ header_short file test) in
+    let same : f ≡ fault.Struct = cc in
+    let short : nat_lt (length file) 10 ≡ true = grind (arith, nat_tests) in
+    rw (short, same) refl
+
+-- A file that is too short for the format of a header has no header.
+pub header_refused : (file : List ℕ) (format : Format) (f : Fault) → format_of (codes "<4xHI") ≡ Ok format → unpacked_from format 0 file ≡ Err f → header_of file ≡ Err f
+header_refused file format f parsed read = refused_by file format f (nat_le 10 (length file)) refl parsed read
 
 long_by : (file : List ℕ) (format : Format) (values : List Scalar) (b : Bool) → nat_le 10 (length file) ≡ b → format_of (codes "<4xHI") ≡ Ok format → unpacked_from format 0 file ≡ Ok values → 10 ≤ length file
 long_by file format values true test parsed read = leb-true 10 (length file) test
@@ -117,6 +138,27 @@ seven_by bytes values false test read = absurd (cc (reading_refused bytes test))
 -- What is read has seven bytes.
 pub reading_of_seven : (bytes : List ℕ) (values : List Scalar) → values_by (codes "<IhB") bytes ≡ Ok values → length bytes ≡ 7
 reading_of_seven bytes values read = seven_by bytes values (length bytes == 7) refl read
+
+-- The format of a reading is a format.
+pub reading_format : (f : Fault) → format_of (codes "<IhB") ≡ Err f → ⊥
+unfolding codes_in layout_from format_after_prefix
+reading_format f same = cc
+
+unread_by : (bytes : List ℕ) (format : Format) (f : Fault) (b : Bool) → (length bytes == 7) ≡ b → format_of (codes "<IhB") ≡ Ok format → unpacked_values format bytes ≡ Err f → reading_of bytes ≡ Err f
+unread_by bytes format f true test parsed read =
+    let by : values_by (codes "<IhB") bytes ≡ Err f = rw parsed read in
+    let seven : length bytes ≡ 7 = grind (arith, nat_tests) in
+    let given = sym by ∙ reading_read bytes seven in
+    absurd cc
+unread_by bytes format f false test parsed read =
+    let by : values_by (codes "<IhB") bytes ≡ Err f = rw parsed read in
+    let given = sym by ∙ reading_refused bytes test in
+    let same : f ≡ fault.Struct = cc in
+    rw (test, same) refl
+
+-- Another number of bytes is no reading.
+pub reading_unread : (bytes : List ℕ) (format : Format) (f : Fault) → format_of (codes "<IhB") ≡ Ok format → unpacked_values format bytes ≡ Err f → reading_of bytes ≡ Err f
+reading_unread bytes format f parsed read = unread_by bytes format f (length bytes == 7) refl parsed read
 
 -- the values of a reading
 pub reading_is_read : (bytes : List ℕ) (format : Format) (values : List Scalar) → format_of (codes "<IhB") ≡ Ok format → unpacked_values format bytes ≡ Ok values

@@ -1,9 +1,14 @@
 -- Loans that are found by their places.
-use Rattle.std.proofs.Common.{◌≡◌, ℕ, zero, suc, ◌+◌, true, List, [], ◌∷◌, Some, None, ap, sym, ◌∙◌, refl, arith}
+use Rattle.std.proofs.Common.{◌≡◌, ℕ, zero, suc, ◌+◌, ◌==◌, ◌&&◌, true, List, [], ◌∷◌, ◌++◌, length, Some, None, ap, sym, ◌∙◌, refl, arith}
 use Rattle.std.specs.Option.{option_map}
 use Rattle.std.specs.Prelude.{slice_get}
 use Rattle.pybuf_command.specs.declared.loans.Loan.{Loan}
 use Rattle.pybuf_command.specs.Loans.{loan_of, are_placed_from}
+
+-- one more pair
+pub placed_and_one : (n : ℕ) (pairs : List (ℕ × Loan)) (pair : ℕ × Loan) → are_placed_from n (pairs ++ pair ∷ []) ≡ are_placed_from n pairs && (pair.0 == n + length pairs)
+placed_and_one n [] pair = grind (arith)
+placed_and_one n (first ∷ pairs) pair = grind (arith, placed_and_one (suc n) pairs pair)
 
 found_from : (n : ℕ) (pairs : List (ℕ × Loan)) (k : ℕ) → are_placed_from n pairs ≡ true → loan_of pairs (n + k) ≡ option_map (λ (pair : ℕ × Loan). pair.1) (slice_get pairs k)
 found_from n [] k placed = refl

@@ -1,5 +1,5 @@
 -- How many bytes a command moves, and queues of commands.
-use Rattle.std.proofs.Common.{◌≡◌, ℕ, ◌+◌, ◌≤◌, List, [], ◌∷◌, false, true≢false, sym, subst, ap, ap₂, refl, inl, inr, arith}
+use Rattle.std.proofs.Common.{◌≡◌, ℕ, ◌+◌, ◌≤◌, List, [], ◌∷◌, true, false, true≢false, sym, subst, ap, ap₂, refl, inl, inr, arith}
 use Rattle.std.specs.Prelude.{Result, Ok, Err, IsOk, IsErr, OnOk, OnErr}
 use Rattle.pybuf_value.specs.declared.faults.Fault.{Fault}
 use Rattle.pybuf_value.specs.declared.faults.Fault.TheVariants as fault
@@ -13,11 +13,92 @@ use Rattle.pybuf_command.specs.declared.commands.LocalCommand.{LocalCommand}
 use Rattle.pybuf_state.specs.Exporter.{Exporter}
 use Rattle.pybuf_state.specs.Loans.{Lent}
 use Rattle.pybuf_state.specs.Answers.{Answers}
+use Rattle.pybuf_verbs_edits.specs.Counting.{taken_places, TakesFirst, grows_at_end}
 use Rattle.pybuf_verbs_edits.specs.Edits.{is_edit, edit_of_own}
 use Rattle.pybuf_exporter.specs.Stored.{StoredExporter}
 use Rattle.pybuf_exporter.specs.Counting.{IsQueueStep, IsQueueRun, QueuesMoveFewBytes}
 
 -- ---- commands that are no edits
+
+pub no_front : (e : Exporter) (v : Verb) (n : ℕ) → is_edit v ≡ false → TakesFirst (taken_places e v) n → ⊥
+no_front e (verb.Append v) n is first = first
+no_front e (verb.Extend v) n is first = first
+no_front e (verb.Insert index v) n is first = first
+no_front e (verb.Pop index) n is first = absurd (true≢false is)
+no_front e (verb.Remove v) n is first = absurd (true≢false is)
+no_front e verb.Clear n is first = first
+no_front e verb.Reverse n is first = first
+no_front e (verb.Del key) n is first = absurd (true≢false is)
+no_front e (verb.IAdd v) n is first = first
+no_front e (verb.IMul count) n is first = first
+no_front e (verb.Init options) n is first = first
+no_front e verb.Take n is first = first
+no_front e verb.Copy n is first = first
+no_front e verb.View n is first = first
+no_front e (verb.Range from to) n is first = first
+no_front e (verb.Get key) n is first = first
+no_front e (verb.Cast format shape) n is first = first
+no_front e (verb.CastF format shape) n is first = first
+no_front e (verb.ToBytes order) n is first = first
+no_front e verb.Release n is first = first
+no_front e verb.Enter n is first = first
+no_front e verb.Exit n is first = first
+no_front e verb.ToContiguous n is first = first
+no_front e verb.ToList n is first = first
+no_front e verb.Len n is first = first
+no_front e (verb.Property name) n is first = first
+no_front e verb.ToReadonly n is first = first
+no_front e (verb.Compare op other) n is first = first
+no_front e verb.Hash n is first = first
+no_front e verb.Repr n is first = first
+no_front e verb.Iter n is first = first
+no_front e verb.Next n is first = first
+no_front e verb.LengthHint n is first = first
+no_front e (verb.SetState state) n is first = first
+no_front e (verb.Contains v) n is first = first
+no_front e (verb.Hex sep group) n is first = first
+no_front e (verb.Call method) n is first = first
+no_front e (verb.Set key v) n is first = first
+
+pub no_growth : (e : Exporter) (v : Verb) (lents : List Lent) → is_edit v ≡ false → grows_at_end v lents ≡ true → ⊥
+no_growth e (verb.Append v) lents is grows = absurd (true≢false is)
+no_growth e (verb.Extend v) lents is grows = absurd (true≢false is)
+no_growth e (verb.Insert index v) lents is grows = true≢false (sym grows)
+no_growth e (verb.Pop index) lents is grows = true≢false (sym grows)
+no_growth e (verb.Remove v) lents is grows = true≢false (sym grows)
+no_growth e verb.Clear lents is grows = true≢false (sym grows)
+no_growth e verb.Reverse lents is grows = true≢false (sym grows)
+no_growth e (verb.Del key) lents is grows = true≢false (sym grows)
+no_growth e (verb.IAdd v) lents is grows = absurd (true≢false is)
+no_growth e (verb.IMul count) lents is grows = true≢false (sym grows)
+no_growth e (verb.Init options) lents is grows = true≢false (sym grows)
+no_growth e verb.Take lents is grows = true≢false (sym grows)
+no_growth e verb.Copy lents is grows = true≢false (sym grows)
+no_growth e verb.View lents is grows = true≢false (sym grows)
+no_growth e (verb.Range from to) lents is grows = true≢false (sym grows)
+no_growth e (verb.Get key) lents is grows = true≢false (sym grows)
+no_growth e (verb.Cast format shape) lents is grows = true≢false (sym grows)
+no_growth e (verb.CastF format shape) lents is grows = true≢false (sym grows)
+no_growth e (verb.ToBytes order) lents is grows = true≢false (sym grows)
+no_growth e verb.Release lents is grows = true≢false (sym grows)
+no_growth e verb.Enter lents is grows = true≢false (sym grows)
+no_growth e verb.Exit lents is grows = true≢false (sym grows)
+no_growth e verb.ToContiguous lents is grows = true≢false (sym grows)
+no_growth e verb.ToList lents is grows = true≢false (sym grows)
+no_growth e verb.Len lents is grows = true≢false (sym grows)
+no_growth e (verb.Property name) lents is grows = true≢false (sym grows)
+no_growth e verb.ToReadonly lents is grows = true≢false (sym grows)
+no_growth e (verb.Compare op other) lents is grows = true≢false (sym grows)
+no_growth e verb.Hash lents is grows = true≢false (sym grows)
+no_growth e verb.Repr lents is grows = true≢false (sym grows)
+no_growth e verb.Iter lents is grows = true≢false (sym grows)
+no_growth e verb.Next lents is grows = true≢false (sym grows)
+no_growth e verb.LengthHint lents is grows = true≢false (sym grows)
+no_growth e (verb.SetState state) lents is grows = true≢false (sym grows)
+no_growth e (verb.Contains v) lents is grows = true≢false (sym grows)
+no_growth e (verb.Hex sep group) lents is grows = true≢false (sym grows)
+no_growth e (verb.Call method) lents is grows = true≢false (sym grows)
+no_growth e (verb.Set key v) lents is grows = true≢false (sym grows)
 
 -- A verb that is no edit has no effect among the edits.
 pub no_edit : (e : Exporter) (v : Verb) (lents : List Lent) → is_edit v ≡ false → edit_of_own e v lents ≡ Err fault.UnknownName
@@ -123,6 +204,9 @@ closes_stored effect old new m n a r answers rooms memory =
 pub always_on_err : {R E : Type 0} (P : Type 0) (r : Result R E) → P → OnErr r P
 always_on_err P (Ok x) holds = tt
 always_on_err P (Err e) holds = holds
+
+pub stored_on_err : {R E : Type 0} (r : Result R E) (old new : Exporter) (m n : ℕ) → OnErr r (new ≡ old) → n ≡ m → OnErr r (stored new n ≡ stored old m)
+stored_on_err r old new m n same rooms = where_err _ _ r same (λ exporters. same_stored new old n m exporters rooms)
 
 -- ---- queues
 

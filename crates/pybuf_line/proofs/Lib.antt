@@ -1,5 +1,6 @@
 pub mod Digits
 pub mod FirstByte
+pub mod Shorts
 pub mod Commands
 pub mod Spelled
 pub mod Cuts

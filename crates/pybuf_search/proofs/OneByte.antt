@@ -1,8 +1,9 @@
 -- The matches of one byte are the places of that byte.
-use Rattle.std.proofs.Common.{◌≡◌, ℕ, zero, suc, ◌+◌, ◌-◌, ◌<◌, List, [], ◌∷◌, length, slice_index, Decides, ap, ◌∙◌, arith, ⊎_elim, eq-eqb, eqb-true, cond}
+use Rattle.std.proofs.Common.{◌≡◌, ℕ, zero, suc, ◌+◌, ◌-◌, ◌<◌, List, [], ◌∷◌, length, slice_index, Decides, sym, ap, ◌∙◌, arith, ⊎_elim, eq-eqb, eqb-true, cond}
 use Rattle.std.proofs.lemmas.Bool.{cases_Bool, cond-false}
 use Rattle.std.proofs.lemmas.Bool.Decides.{same_from_decides}
 use Rattle.memchr.specs.Find.{OccursAt, occurs_at, is_byte, places_from, places, matches_from, matches}
+use Rattle.pybuf_search.specs.Places.{number_of_matches}
 use Rattle.pybuf_search.proofs.MatchLaws.{Decides-occurs_at}
 
 -- A single byte stands at a place if that place has this byte.
@@ -41,3 +42,8 @@ module _ (bytes : List ℕ) (b : ℕ) where
       let whole : length bytes + 1 - 0 ≡ suc (length bytes) = omega arith in
       let same : length bytes ≡ length bytes - 0 = omega arith in
       ap (matches_from bytes (b ∷ []) 0 0) whole ∙ one_from (length bytes) 0 (omega arith) ∙ ap (places_from (is_byte b) bytes 0) same
+
+pub counted_by_byte : (bytes needle : List ℕ) (b : ℕ) → length needle ≡ 1 → b ≡ slice_index needle 0 → length (places (is_byte b) bytes) ≡ number_of_matches bytes needle
+counted_by_byte bytes [] b one is = absurd (omega arith)
+counted_by_byte bytes (first ∷ []) b one is = ap (λ k. length (places (is_byte k) bytes)) is ∙ sym (ap length (matches-one bytes first))
+counted_by_byte bytes (first ∷ second ∷ more) b one is = absurd (omega arith)

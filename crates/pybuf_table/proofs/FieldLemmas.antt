@@ -1,10 +1,23 @@
 -- The fields of one code, by their numbers.
-use Rattle.std.proofs.Common.{◌≡◌, ℕ, zero, suc, ◌+◌, ◌-◌, ◌<◌, ◌≤◌, List, [], ◌∷◌, ◌++◌, length, get_or, drop, refl, sym, ap, ◌∙◌, arith}
-use Rattle.std.specs.Prelude.{Some, Option, slice_get}
+use Rattle.std.proofs.Common.{◌≡◌, ℕ, zero, suc, ◌+◌, ◌-◌, ◌*◌, ◌<◌, ◌≤◌, List, [], ◌∷◌, ◌++◌, length, get_or, drop, refl, sym, ap, ◌∙◌, arith}
+use Rattle.std.specs.Prelude.{Some, None, Option, slice_get}
+use Rattle.std.proofs.lemmas.List.{drop_all}
 use Rattle.pybuf_struct.specs.Facts.{length-fields_of_code, next_is}
+use Rattle.pybuf_struct.specs.declared.table.FormatType.{FormatType}
+use Rattle.pybuf_struct.specs.declared.table.FormatType.TheVariants as code
 use Rattle.pybuf_struct.specs.declared.table.Endianness.{Endianness}
 use Rattle.pybuf_struct.specs.Table.{size_of}
-use Rattle.pybuf_struct.specs.Formats.{Code, Field, fields_of_code, fields_from, field_count, offset_after, span, extent}
+use Rattle.pybuf_struct.specs.Formats.{Code, Field, fields_in_row, fields_of_code, fields_from, field_count, offset_after, span, extent}
+
+abbrev field_at : FormatType → ℕ → ℕ → Option Field
+field_at c offset size = Some (record { code = c; offset = offset; length = size })
+
+pub unit_in_row : (c : FormatType) (size offset count number : ℕ) → number < count → slice_get (fields_in_row c size offset count) number ≡ Some (record { code = c; offset = offset + number * size; length = size })
+unit_in_row c size offset zero number less = absurd (omega arith)
+unit_in_row c size offset (suc count) zero less = let same : offset ≡ offset + 0 * size = omega arith in ap (λ (n : ℕ). field_at c n size) same
+unit_in_row c size offset (suc count) (suc number) less =
+    let same : offset + size + number * size ≡ offset + suc number * size = omega arith in
+    unit_in_row c size (offset + size) count number (omega arith) ∙ ap (λ (n : ℕ). field_at c n size) same
 
 -- ---- lists end to end
 
@@ -46,6 +59,9 @@ found_later o at i k codes c less is there = rw (next_is codes i c less is) (fie
 pub more_inside : (o : Endianness) (at i size : ℕ) (codes : List Code) (c : Code) → i < length codes → c ≡ get_or codes i c → at + extent o (drop i codes) ≤ size
     → at + (c.pre_padding + span o c + extent o (drop (i + 1) codes)) ≤ size
 more_inside o at i size codes c less is within = rw (next_is codes i c less is) at within
+
+pub found_none : (o : Endianness) (at i k : ℕ) (codes : List Code) → length codes ≤ i → slice_get (fields_from o at (drop i codes)) k ≡ None
+found_none o at i k codes all = rw (drop_all i codes all) refl
 
 pub found_at : (o : Endianness) (at i k count pad : ℕ) (codes : List Code) (c : Code) (place : Field) (wanted : Option Field) → i < length codes → c ≡ get_or codes i c → count ≡ field_count c → k < count → pad ≡ c.pre_padding
     → slice_get (fields_of_code c.code (size_of o c.code) (at + pad) c.repeat) k ≡ Some place → slice_get (fields_from o at (drop i codes)) k ≡ wanted → Some place ≡ wanted

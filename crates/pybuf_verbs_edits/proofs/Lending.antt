@@ -119,6 +119,16 @@ adds e k (Some v) l at found effect = adds_live e k v v.released l at refl found
 pub view_adds : (e : Exporter) (k : ℕ) (l : Layout) → live_layout e k ≡ Ok l → is_contiguous_layout l ≡ true → added_by e (snap_of_subject e (subject.View k)) ≡ Err fault.Buffer
 view_adds e k l found effect = adds e k (slice_get e.views k) l refl found effect
 
+-- ---- something of another exporter
+
+pub other_extends : (e : Exporter) (o : Option Snap) → extended_as e (option_map loan.Other o) ≡ extended_by e o
+other_extends e None = refl
+other_extends e (Some snap) = refl
+
+pub other_adds : (e : Exporter) (o : Option Snap) → added_as e (option_map loan.Other o) ≡ added_by e o
+other_adds e None = refl
+other_adds e (Some snap) = refl
+
 -- ---- what is lent for one handle
 
 -- just what is lent for this handle

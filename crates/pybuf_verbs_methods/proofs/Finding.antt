@@ -10,7 +10,7 @@ use Rattle.pybuf_command.specs.declared.loans.Loan.{Loan}
 use Rattle.pybuf_state.specs.Exporter.{Exporter}
 use Rattle.pybuf_state.specs.Loans.{Lent, lent_as, lents_by, snap_in, snaps_of, subject_in}
 use Rattle.pybuf_verbs_methods.specs.Laws.{NamesAreFound}
-use Rattle.pybuf_verbs_methods.specs.Names.{paired, all_paired}
+use Rattle.pybuf_verbs_methods.specs.Names.{paired, all_paired, named_among}
 
 -- If a handle names nothing, or isn't the one that is sought, the search goes on among the others.
 past : (x : ℕ) (s : Option Snap) (rest : List (ℕ × Snap)) (h : ℕ) → (x == h) ≡ false → snap_of (paired x s ++ rest) h ≡ snap_of rest h
@@ -44,3 +44,9 @@ lents_paired e named [] = refl
 lents_paired e named (x ∷ xs) =
     one_lent x (subject_in (named x)) (snap_in e (named x)) (lents_by e named xs)
     ∙ ap (λ (rest : List (ℕ × Snap)). paired x (snap_in e (named x)) ++ rest) (lents_paired e named xs)
+
+pub found_among : (e : Exporter) (named : ℕ → Option Loan) (handles : List ℕ) (h : ℕ) →
+    snap_of (snaps_of (lents_by e named handles)) h ≡ named_among (λ x. snap_in e (named x)) handles h
+found_among e named handles h =
+    ap (λ (pairs : List (ℕ × Snap)). snap_of pairs h) (lents_paired e named handles)
+    ∙ names_found (λ x. snap_in e (named x)) handles h

@@ -2,9 +2,12 @@
 use Rattle.std.proofs.Common.{◌≡◌, ◌≢◌, ℕ, suc, ◌<◌, List, [], ◌∷◌, ◌++◌, length, map, set, Bool, true, false, true≢false, get_or, ap, ap₂, sym, ◌∙◌, refl, arith}
 use Rattle.std.specs.Prelude.{◌==◌, ◌&&◌, ◌||◌, IfOk, OnErr, slice_get, Option, Some, None, Result, Ok, Err, if◌then◌else◌}
 use Rattle.std.specs.List.{list_all, list_any}
+use Rattle.std.specs.Option.{option_map}
 use Rattle.std.proofs.lemmas.Bool.{eqb-true, eq-eqb, ne_eqb}
+use Rattle.std.proofs.lemmas.Option.{slice_get-get_or}
 use Rattle.std.proofs.lemmas.List.Folds.{list_any_at}
 use Rattle.pybuf_lemmas.proofs.Lists.{set_to_itself, set_twice}
+use Rattle.pybuf_value.specs.declared.snaps.Snap.{Snap}
 use Rattle.pybuf_value.specs.declared.values.Value.{Value}
 use Rattle.pybuf_value.specs.declared.values.Value.TheVariants as value
 use Rattle.pybuf_command.specs.declared.kinds.Subject.{Subject}
@@ -13,10 +16,11 @@ use Rattle.pybuf_command.specs.declared.commands.Verb.{Verb}
 use Rattle.pybuf_command.specs.declared.commands.Verb.TheVariants as verb
 use Rattle.pybuf_command.specs.declared.commands.LocalReply.{LocalReply}
 use Rattle.pybuf_command.specs.declared.loans.Loan.{Loan}
+use Rattle.pybuf_command.specs.declared.loans.Loan.TheVariants as loan
 use Rattle.pybuf_command.specs.Handles.{handles_in_slice, handles_in, handles_in_option, handle_of_value, handle_of_option, handles_of, handles_read}
 use Rattle.pybuf_command.specs.Loans.{loan_of}
 use Rattle.pybuf_state.specs.Exporter.{Exporter}
-use Rattle.pybuf_state.specs.Loans.{Lent, given_loan, names_of, is_named, lent_as, lents_by, snap_in, subject_in}
+use Rattle.pybuf_state.specs.Loans.{Lent, given_loan, names_of, is_named, lent_as, lents_by, loan_of_snap, snap_in, subject_in}
 use Rattle.pybuf_state.specs.Names.{loan_of_own}
 use Rattle.pybuf_exporter.specs.Step.{estep_by}
 use Rattle.pybuf_exporter.specs.Laws.{AreAlike, NamesAlikeDoTheSame}
@@ -27,6 +31,15 @@ use Rattle.pybuf_world.specs.Stepping.{named_to, local_step}
 use Rattle.pybuf_world.proofs.Lists.{slice_get-set_other}
 
 -- ---- what a name is lent as
+
+pub own_given : (s : Subject) → given_loan (Some (loan_of_own s)) ≡ Some (loan_of_own s)
+own_given subject.Own = refl
+own_given (subject.View k) = refl
+own_given (subject.Iter k) = refl
+
+pub snap_given : (o : Option Snap) → given_loan (Some (loan_of_snap o)) ≡ option_map loan.Other o
+snap_given None = refl
+snap_given (Some snap) = refl
 
 -- The name is of another exporter than the one that steps.
 pub another_lends : (w : World) (i : ℕ) (name : Named) (j k : ℕ) (s : Subject) → k ≡ exporter_of name → k ≢ i → j ≡ exporter_of name → s ≡ subject_of name
@@ -231,6 +244,12 @@ alike_among w i dest e s v = record {
 }
 
 -- ---- the step
+
+abbrev some_exporter : Exporter → Option Exporter
+some_exporter e = Some e
+
+pub at_place : (es : List Exporter) (i : ℕ) (x d : Exporter) → i < length es → x ≡ get_or es i d → slice_get es i ≡ Some x
+at_place es i x d below is = slice_get-get_or es i d below ∙ ap some_exporter (sym is)
 
 pub stepped_among : NamesAlikeDoTheSame → (w : World) (t : Target) (v : Verb) (worker dest new : Exporter) (r : LocalReply) → slice_get w.exporters t.exporter ≡ Some worker
     → estep_by worker t.subject v (named_to (record w { exporters = set w.exporters t.exporter dest }) t.exporter) ≡ (new, r)
