@@ -9,7 +9,7 @@ use Rattle.std.proofs.lemmas.Nat.{mul-add-lt}
 use Rattle.std.proofs.Math.Nat.{mul-pos}
 use Rattle.pybuf_desc.specs.Facts.{whole_starts}
 use Rattle.pybuf_index.specs.Parts.{SliceParts}
-use Rattle.pybuf_desc.specs.Layouts.{Layout, LiesInside, bytes_layout, product}
+use Rattle.pybuf_desc.specs.Layouts.{Layout, LiesInside, bytes_layout}
 use Rattle.pybuf_desc.specs.Contiguous.{starts_from, is_contiguous_layout}
 use Rattle.pybuf_desc.specs.ShapedCasts.{cast_to}
 use Rattle.pybuf_desc.specs.Laws.{ShapedCastsStayInside}
@@ -189,15 +189,6 @@ whole_shows count rows columns channels size some_row some_column some_channel =
       ap (λ (k : ℕ). slice_index (starts_from (range_with_len 0 count) 1 (rows * (columns * k))) (row * (columns * channels) + (column * channels + channel))) one
       ∙ from_zero count (rows * (columns * channels)) _ inside some;
 }
-
-pub whole_frame : (count rows columns channels : ℕ) → 0 < rows → 0 < columns → 0 < channels → IsFrame (cast_to (bytes_layout count false) (codes "B") 1 (rows ∷ columns ∷ channels ∷ []))
-whole_frame count rows columns channels p q s = frame_of _ _ _ _ refl refl refl refl p q s
-
-pub shape_bytes : (n a b c : ℕ) → n ≡ a * (b * c) → 1 * product (a ∷ b ∷ c ∷ []) ≡ n
-shape_bytes n a b c size =
-    let one : c * 1 ≡ c = omega arith in
-    let same : 1 * (a * (b * c)) ≡ a * (b * c) = omega arith in
-    ap (λ (k : ℕ). 1 * (a * (b * k))) one ∙ same ∙ sym size
 
 pub whole_inside : ShapedCastsStayInside → (count rows columns channels : ℕ) → count ≡ rows * (columns * channels)
     → LiesInside count (cast_to (bytes_layout count false) (codes "B") 1 (rows ∷ columns ∷ channels ∷ []))

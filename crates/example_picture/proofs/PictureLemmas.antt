@@ -1,7 +1,6 @@
 -- The exporter of a picture.
-use Rattle.std.proofs.Common.{◌≡◌, ℕ, ◌+◌, ◌*◌, ◌<◌, ◌≤◌, ◌^◌, ℤ, pos, false, List, [], ◌∷◌, ◌++◌, length, take, drop, set, refl, ap, ap₂, sym, subst, ◌∙◌, arith, true≢false, length-set}
+use Rattle.std.proofs.Common.{◌≡◌, ℕ, ◌+◌, ◌*◌, ◌<◌, ◌≤◌, ◌^◌, ℤ, pos, false, List, [], ◌∷◌, length, refl, ap, ap₂, sym, subst, ◌∙◌, arith, true≢false}
 use Rattle.std.specs.Prelude.{◌+ℤ◌, ◌≤ℤ◌, ◌<ℤ◌, nat_abs, slice_index}
-use Rattle.std.proofs.Math.Seq.{take-append_seam}
 use Rattle.std.proofs.lemmas.List.Elements.{All-push}
 use Rattle.std.proofs.lemmas.Option.{get_or_from_slice_get}
 use Rattle.pybuf_command.specs.declared.kinds.ExporterKind.TheVariants as kinds
@@ -18,7 +17,6 @@ use Rattle.pybuf_desc.specs.ColumnOrder.{number_at}
 use Rattle.pybuf_nd.specs.IndexMaps.{IsIndexList}
 use Rattle.pybuf_state.specs.Exporter.{Exporter, with_view}
 use Rattle.pybuf_state.specs.Laws.{IsSoundLayout, WholeLayoutsAreSound}
-use Rattle.pybuf_exporter.specs.Lending.{overwritten_exporter}
 use Rattle.example_picture.specs.Parts.{place}
 use Rattle.example_picture.specs.Cuts.{part_of, IsFrame}
 use Rattle.example_picture.specs.Pictures.{IsOut, IsPicture, HasLevel}
@@ -94,15 +92,3 @@ found stand positions within d start room row column channel offset placed valid
     let indices : AreIndices (row ∷ column ∷ channel ∷ []) d.dims = are_indices d.dims (row ∷ column ∷ channel ∷ []) (subst (λ (s : List ℕ). IsIndexList s (row ∷ column ∷ channel ∷ [])) (sym frame.shape) inside) in
     found_at stand within d start room row column channel offset placed valid frame
     (subst (λ (z : ℤ). IsPosition (layout_at d start) start (number_of_item (row ∷ column ∷ channel ∷ []) d.dims) z) (sym sum) (positions d start (layout_at d start) (row ∷ column ∷ channel ∷ []) placed (stand d start placed) indices))
-
--- ---- a level is painted
-
-pub painted_is : (e : Exporter) (k x : ℕ) → overwritten_exporter e (set e.bytes k x) ≡ record e { bytes = set e.bytes k x }
-painted_is e k x =
-    ap (λ (bytes : List ℕ). record e { bytes = bytes })
-    (ap (λ (n : ℕ). take n (set e.bytes k x ++ drop (length (set e.bytes k x)) e.bytes)) (sym (length-set e.bytes k x)) ∙ take-append_seam (set e.bytes k x) (drop (length (set e.bytes k x)) e.bytes))
-
-pub painted_sound : (rows columns channels : ℕ) (e : Exporter) (k x : ℕ) → IsPicture rows columns channels e → IsPicture rows columns channels (overwritten_exporter e (set e.bytes k x))
-painted_sound rows columns channels e k x is =
-    subst (IsPicture rows columns channels) (sym (painted_is e k x))
-    (record { kind = is.kind; size = length-set e.bytes k x ∙ is.size; some_row = is.some_row; some_column = is.some_column; some_channel = is.some_channel; views = is.views })

@@ -1,9 +1,8 @@
 -- What one session did with a locked buffer, and what two sessions did with two buffers.
-use Rattle.std.proofs.Common.{◌≡◌, inl, inr, ℕ, ◌<◌, List, [], ◌∷◌, ◌++◌, length, map, get_or, Bool, true, Option, Some, None, Result, Ok, Err, IfOk, refl, ap, sym, ◌∙◌, subst, arith}
+use Rattle.std.proofs.Common.{◌≡◌, ℕ, ◌<◌, List, [], ◌∷◌, ◌++◌, length, map, get_or, Bool, true, Option, Some, Result, Ok, Err, IfOk, refl, ap, sym, ◌∙◌, subst, arith}
 use Rattle.std.specs.Prelude.{if◌then◌else◌}
 use Rattle.std.specs.List.{All}
 use Rattle.std.proofs.lemmas.Bool.{eq-eqb}
-use Rattle.std.proofs.lemmas.Option.{none-some}
 use Rattle.std.proofs.lemmas.List.Elements.{All-head, All-tail, All-nil, All-cons}
 use Rattle.pybuf_command.specs.declared.commands.LocalCommand.{LocalCommand}
 use Rattle.pybuf_command.specs.declared.commands.LocalReply.{LocalReply}
@@ -18,15 +17,11 @@ use Rattle.pybuf_share.specs.declared.joined.FinishFault.{FinishFault}
 use Rattle.pybuf_share.specs.declared.joined.FinishFault.TheVariants as fault
 use Rattle.pybuf_share.specs.declared.joined.Joined.{Joined}
 use Rattle.pybuf_share.specs.Carrying.{bytes_asked, bytes_in_reply, bytes_given, with_bytes, Takes}
-use Rattle.pybuf_share.specs.Finishing.{AreAll, AreTheirs, ArePlain, IsJoined, RefusesAtLast, first_fall, order_fault, order_fault_or}
+use Rattle.pybuf_share.specs.Finishing.{AreTheirs, ArePlain, IsJoined}
 use Rattle.pybuf_share.specs.History.{Opening, IsLegal, replay, replies_along}
 use Rattle.pybuf_share.specs.Joining.{entries_of}
 use Rattle.pybuf_share.specs.Sessions.{Asker, new_session, last_reply, IsAnswered}
-use Rattle.example_users.specs.Handing.{Handed, handed, byte_array, extending, last_bytes, IsWhole, IsAlone, IsNotHanded}
-
--- A single session is all sessions.
-pub is_all : (parts : ℕ) (s : Asker) → s.number ≡ 0 → s.parts ≡ parts → AreAll parts (s ∷ [])
-is_all parts s number whole = record { numbers = ap (λ n. n ∷ []) number; whole = grind (arith, whole) }
+use Rattle.example_users.specs.Handing.{Handed, handed, byte_array, extending, last_bytes, IsAlone}
 
 pub is_plain : (s : Asker) → s.is_plain ≡ true → ArePlain (s ∷ [])
 is_plain s plain = All-cons (λ (t : Asker). t.is_plain ≡ true) s [] plain (All-nil (λ (t : Asker). t.is_plain ≡ true))
@@ -57,9 +52,6 @@ alone_by opening s ss (Ok joined) are number plain is theirs =
     is_alone opening s joined number (subst (λ (l : List Asker). IsJoined opening.kind opening.bytes l joined) are is)
     (subst (λ (l : List Asker). AreTheirs l joined.entries) are (theirs (subst ArePlain (sym are) (is_plain s plain))))
 alone_by opening s ss (Err fault) are number plain is theirs = is
-
-pub is_whole : (opening : Opening) (s : Asker) (joined : Joined) → IsAlone opening s joined → IsWhole joined
-is_whole opening s joined alone = record { opening = opening; sessions = s ∷ []; is = alone.is }
 
 -- the entries of a session's first call
 one_entry : (command : LocalCommand) (after : Asker) (answered : IsAnswered (new_session 0) command after)
@@ -100,33 +92,3 @@ module _ (from to : List ℕ) (giver taker : Asker) (first second : Joined) (ask
 
   pub is_handed : record { given = last_bytes first; taken = last_bytes second } ≡ handed from to
   is_handed = cc (given_is, taken_is)
-
--- A session stays plain, whether it took something or not.
-pub still_plain : (before after : Asker) (command : LocalCommand) (handle : ℕ) (given : Option (List ℕ)) → Takes before command handle given after → before.is_plain ≡ true → after.is_plain ≡ true
-still_plain before after command handle (Some bytes) takes plain = ap (λ (s : Asker). s.is_plain) takes.answered.same ∙ plain
-still_plain before after command handle None takes plain = ap (λ (s : Asker). s.is_plain) takes ∙ plain
-
--- ---- why bytes aren't handed over
-
--- A single receipt is in order, and so is none.
-pub asked_in_order : (command : LocalCommand) (after : Asker) → IsAnswered (new_session 0) command after → first_fall after.receipts ≡ None
-asked_in_order command after answered = ap (λ (s : Asker). first_fall s.receipts) answered.same
-
-pub taken_in_order : (command : LocalCommand) (handle : ℕ) (given : Option (List ℕ)) (after : Asker) → Takes (new_session 0) command handle given after → first_fall after.receipts ≡ None
-taken_in_order command handle (Some bytes) after takes = asked_in_order (with_bytes handle bytes command) after takes.answered
-taken_in_order command handle None after takes = ap (λ (s : Asker). first_fall s.receipts) takes
-
-no_order : (s : Asker) (session before after : ℕ) → first_fall s.receipts ≡ None → order_fault (s ∷ []) ≡ Some (fault.Order session before after) → ⊥
-no_order s session before after one is = none-some (fault.Order session before after) (sym (ap (λ (fall : Option (ℕ × ℕ)). order_fault_or s.number fall None) one) ∙ is)
-
-pub not_handed_from : (from to : List ℕ) (s : Asker) (f : FinishFault) → first_fall s.receipts ≡ None → RefusesAtLast (byte_array from) (s ∷ []) f → IsNotHanded from to f
-not_handed_from from to s (fault.Opening given_kind given kept_kind kept) one why = inl why
-not_handed_from from to s (fault.Order session before after) one why = no_order s session before after one why
-not_handed_from from to s (fault.Disagree at kept got) one why = why.differs
-not_handed_from from to s fault.NoMemory one why = tt
-
-pub not_handed_to : (from to : List ℕ) (s : Asker) (f : FinishFault) → first_fall s.receipts ≡ None → RefusesAtLast (byte_array to) (s ∷ []) f → IsNotHanded from to f
-not_handed_to from to s (fault.Opening given_kind given kept_kind kept) one why = inr why
-not_handed_to from to s (fault.Order session before after) one why = no_order s session before after one why
-not_handed_to from to s (fault.Disagree at kept got) one why = why.differs
-not_handed_to from to s fault.NoMemory one why = tt

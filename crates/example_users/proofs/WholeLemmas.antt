@@ -1,20 +1,18 @@
 -- Views that are out show all bytes, and a number is written through one of them.
-use Rattle.std.proofs.Common.{◌≡◌, ℕ, suc, zero, ◌+◌, ◌*◌, ◌<◌, ◌≤◌, ◌^◌, ◌/◌, ◌%◌, Bool, true, false, not, List, [], ◌∷◌, ◌++◌, length, map, refl, ap, arith, sym, ◌∙◌, subst, set, Some, take, drop}
+use Rattle.std.proofs.Common.{◌≡◌, ℕ, suc, zero, ◌+◌, ◌*◌, ◌<◌, ◌^◌, ◌/◌, ◌%◌, Bool, true, false, not, List, [], ◌∷◌, ◌++◌, length, map, refl, ap, arith, sym, ◌∙◌, subst, set, Some, take, drop}
 use Rattle.std.specs.Prelude.{slice_get, slice_index, Result, Ok, Err, MatchResult, OnErr}
-use Rattle.std.proofs.lemmas.List.{length-map}
 use Rattle.std.specs.Result.{result_map_both}
 use Rattle.pybuf_value.specs.declared.faults.Fault.{Fault}
 use Rattle.pybuf_value.specs.declared.halt.Halt.{Halt}
 use Rattle.pybuf_value.specs.declared.halt.Halt.TheVariants as halt
 use Rattle.pybuf_value.specs.Refusing.{◌>>=◌}
-use Rattle.pybuf_command.specs.declared.kinds.ExporterKind.TheVariants as kinds
 use Rattle.pybuf_command.specs.declared.commands.LocalReply.{LocalReply}
 use Rattle.pybuf_command.specs.declared.commands.LocalReply.TheVariants as reply
 use Rattle.pybuf_command.specs.Kinds.{holds_readonly}
 use Rattle.pybuf_desc.specs.Layouts.{Layout, bytes_layout}
 use Rattle.pybuf_desc.specs.Items.{content_of_layout}
 use Rattle.pybuf_state.specs.Answers.{Answers}
-use Rattle.pybuf_state.specs.Exporter.{Exporter, View, is_exported, new_exporter, view_at, released_at, released_in, with_view, whole_layout}
+use Rattle.pybuf_state.specs.Exporter.{Exporter, View, is_exported, view_at, released_at, released_in, with_view, whole_layout}
 use Rattle.pybuf_state.specs.Live.{is_live, is_unreleased, layout_in, layout_of}
 use Rattle.pybuf_exporter.specs.Lending.{written_from, overwritten_exporter}
 use Rattle.example_users.specs.Lines.{IsSpanned}
@@ -28,22 +26,8 @@ shown_live [] k live = absurd cc
 shown_live (v ∷ views) zero live = ap Some live
 shown_live (v ∷ views) (suc k) live = shown_live views k live
 
--- A view that was given and isn't live was given back.
-shown_back : (views : List View) (k : ℕ) → k < length views → is_unreleased (slice_get views k) ≡ false → slice_get (map is_exported views) k ≡ Some false
-shown_back [] k inside back = absurd (omega arith)
-shown_back (v ∷ views) zero inside back = ap Some back
-shown_back (v ∷ views) (suc k) inside back = shown_back views k (omega arith) back
-
 pub is_out : (a : Numbers) (e : Exporter) (k : ℕ) → numbers_in e ≡ a → is_live e k ≡ true → IsOut a k
 is_out a e k shown live = subst (λ b. IsOut b k) shown (shown_live e.views k live)
-
-pub is_back : (a : Numbers) (e : Exporter) (k : ℕ) → numbers_in e ≡ a → k < length e.views → is_live e k ≡ false → slice_get a.out k ≡ Some false
-is_back a e k shown given back = subst (λ (b : Numbers). slice_get b.out k ≡ Some false) shown (shown_back e.views k given back)
-
-pub is_unknown : (a : Numbers) (e : Exporter) (k : ℕ) → numbers_in e ≡ a → length e.views ≤ k → length a.out ≤ k
-is_unknown a e k shown past =
-    let many : length (map is_exported e.views) ≡ length a.out = ap (λ (b : Numbers). length b.out) shown in
-    omega (arith, length-map e.views is_exported)
 
 -- Each view that is live has this layout.
 abbrev AllSpan : List View → Layout → Type 0
@@ -67,10 +51,6 @@ span_back (w ∷ views) (suc i) v l all is zero live = all zero live
 span_back (w ∷ views) (suc i) v l all is (suc k) live = span_back views i v l (λ j. all (suc j)) is k live
 
 -- ---- arrays stay arrays
-
--- A new array has no view.
-pub empty_sound : (e : Exporter) → e ≡ new_exporter kinds.ByteArray [] → IsNumberArray e
-empty_sound e is = subst IsNumberArray (sym is) (record { kind = refl; pairs = refl; whole = λ view live. absurd cc })
 
 more_sound : (e new : Exporter) → IsNumberArray e → new ≡ (with_view e (whole_layout e)).0 → IsNumberArray new
 more_sound e new is now =

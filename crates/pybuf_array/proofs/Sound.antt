@@ -6,17 +6,15 @@ use Rattle.std.proofs.lemmas.List.Sums.{sum_by-cons}
 use Rattle.pybuf_value.specs.declared.faults.Fault.{Fault}
 use Rattle.pybuf_value.specs.declared.faults.Fault.TheVariants as fault
 use Rattle.pybuf_value.specs.Refusing.{unless}
-use Rattle.pybuf_command.specs.declared.kinds.ExporterKind.TheVariants as kinds
-use Rattle.pybuf_state.specs.Exporter.{Exporter, View, exports_of, is_exported, new_exporter}
+use Rattle.pybuf_state.specs.Exporter.{Exporter, View, exports_of, is_exported}
 use Rattle.pybuf_numbers.specs.declared.codes.ArrayCode.{ArrayCode}
-use Rattle.pybuf_numbers.specs.declared.codes.ArrayCode.TheVariants as code
 use Rattle.pybuf_numbers.specs.declared.runs.IndexRun.{IndexRun}
 use Rattle.std.specs.Simd.{first_chunks}
 use Rattle.std.proofs.Math.Nat.{div-le_self}
 use Rattle.std.proofs.Math.Seq.{take-append_seam}
 use Rattle.pybuf_lemmas.proofs.Lists.{length_of_chunks}
 use Rattle.pybuf_state.specs.Facts.{none_live}
-use Rattle.pybuf_numbers.specs.Facts.{no_array_items_whole, numbers_of_none, length_mapped, length_of_numbers}
+use Rattle.pybuf_numbers.specs.Facts.{length_mapped, length_of_numbers}
 use Rattle.pybuf_exporter.specs.Lending.{overwritten_exporter}
 use Rattle.pybuf_numbers.specs.Codes.{size_of}
 use Rattle.pybuf_numbers.specs.Numbers.{numbers_of, number_in, count_in, is_whole}
@@ -39,12 +37,6 @@ unless_free true f is = absurd cc
 unless_free false f is = refl
 
 -- ---- an array without numbers
-
-pub new_shown : (c : ArrayCode) → array_of c (new_exporter kinds.ByteArray []) [] ≡ spec.new_array c
-new_shown c = ap (λ (ns : List ℤ). record { code = c; numbers = ns; views = [] }) (numbers_of_none c)
-
-pub new_sound : (c : ArrayCode) → IsSoundArray c (new_exporter kinds.ByteArray []) []
-new_sound c = record { kind = refl; whole = no_array_items_whole c; count = refl; inside = λ k r there live. absurd cc }
 
 pub few_numbers : (c : ArrayCode) (bytes : List ℕ) → length (numbers_of c bytes) ≤ length bytes
 few_numbers c bytes =

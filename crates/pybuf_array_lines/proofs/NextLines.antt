@@ -1,5 +1,5 @@
 -- The operations of lines, after one more line.
-use Rattle.std.proofs.Common.{◌≡◌, ℕ, ◌+◌, List, [], ◌∷◌, ◌++◌, refl, sym, ◌∙◌, ap, Result, Ok, Err, Some, None}
+use Rattle.std.proofs.Common.{◌≡◌, ℕ, ◌+◌, List, [], ◌∷◌, ◌++◌, refl, sym, ◌∙◌, ap, Result, Ok, Err, Some}
 use Rattle.std.proofs.lemmas.List.{append_assoc}
 use Rattle.pybuf_array.specs.declared.operations.ArrayOp.{ArrayOp}
 use Rattle.pybuf_line.specs.Lines.{lines}
@@ -25,14 +25,3 @@ next_operation all operations n rest line after o cut spells h =
     ∙ (ap (λ l. onto operations (operations_from (n + 1) l)) cut
     ∙ (ap (λ x. onto operations (operation_before (n + 1) x (operations_from (n + 1 + 1) (lines after)))) spells
     ∙ onto_before operations (n + 1) o (operations_from (n + 1 + 1) (lines after))))
-
-pub no_operation_next : (all : Result (List ArrayOp) ℕ) (operations : List ArrayOp) (n : ℕ) (rest line after : List ℕ) →
-    lines rest ≡ line ∷ lines after → operation_in line ≡ None → all ≡ onto operations (operations_from (n + 1) (lines rest)) → all ≡ Err (n + 1)
-no_operation_next all operations n rest line after cut none h =
-    h
-    ∙ (ap (λ l. onto operations (operations_from (n + 1) l)) cut
-    ∙ ap (λ x. onto operations (operation_before (n + 1) x (operations_from (n + 1 + 1) (lines after)))) none)
-
-pub all_operations : (all : Result (List ArrayOp) ℕ) (operations : List ArrayOp) (n : ℕ) (rest : List ℕ) → lines rest ≡ [] →
-    all ≡ onto operations (operations_from (n + 1) (lines rest)) → all ≡ Ok (operations ++ [])
-all_operations all operations n rest none h = h ∙ ap (λ l. onto operations (operations_from (n + 1) l)) none

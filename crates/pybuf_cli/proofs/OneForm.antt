@@ -1,16 +1,11 @@
 -- What the program promises for the form that its words ask for.
-use Rattle.std.proofs.Common.{◌≡◌, ◌≢◌, ◌⊎◌, ℕ, Bool, true, false, cond, List, [], ◌∷◌, length, Option, Some, None, inl, inr, sym, ◌∙◌, ap, refl, subst, arith}
-use Rattle.std.specs.Prelude.{codes}
-use Rattle.std.specs.Str.{bytes_eq}
+use Rattle.std.proofs.Common.{◌≡◌, ◌⊎◌, ℕ, true, List, Option, Some, None, inl, inr, sym, ◌∙◌, ap, refl, subst, arith}
 use Rattle.pybuf_cli.specs.declared.forms.Form.{Form}
 use Rattle.pybuf_cli.specs.declared.status.Status.{Status}
 use Rattle.pybuf_cli.specs.declared.status.Status.TheVariants as status
 use Rattle.pybuf_cli.specs.declared.forms.Form.TheVariants as form
-use Rattle.pybuf_numbers.specs.declared.codes.ArrayCode.{ArrayCode}
-use Rattle.pybuf_table_lines.specs.Listings.{Listing, listing_in}
-use Rattle.pybuf_nd_lines.specs.Selections.{Selection, selection_in}
 use Rattle.pybuf_cli.specs.Devices.{Rose}
-use Rattle.pybuf_cli.specs.Program.{script_number_in, made, array_code_in, array_of, tabled, selecting, form_of, take_memory, AskForData, alone}
+use Rattle.pybuf_cli.specs.Program.{take_memory, AskForData, alone}
 use Rattle.pybuf_cli.specs.Serving.{ServesForm, Serves}
 use Rattle.pybuf_cli.proofs.Data.{no_memory_so, no_memory_serves}
 
@@ -142,56 +137,6 @@ no_sessions_alone (Some (form.Table l)) is = cc
 no_sessions_alone (Some (form.Nd s)) is = cc
 
 -- ---- which words ask for sessions
-
-alone_same : (asked : Option Form) → (asked ≡ Some form.Share → ⊥) → alone asked ≡ asked
-alone_same None other = refl
-alone_same (Some form.Run) other = refl
-alone_same (Some form.Share) other = absurd (other refl)
-alone_same (Some (form.Make n)) other = refl
-alone_same (Some (form.Array c)) other = refl
-alone_same (Some (form.Table l)) other = refl
-alone_same (Some (form.Nd s)) other = refl
-
-one_word : (run share : Bool) → share ≡ false → cond run (Some form.Run) (cond share (Some form.Share) None) ≡ Some form.Share → ⊥
-one_word true share other is = cc
-one_word false true other is = cc
-one_word false false other is = cc
-
-more_words : (table : Bool) (l : Option Listing) → cond table (tabled l) None ≡ Some form.Share → ⊥
-more_words true (Some l) is = cc
-more_words true None is = cc
-more_words false l is = cc
-
-three_words : (table nd : Bool) (l : Option Listing) (s : Option Selection) → cond table (tabled l) (cond nd (selecting s) None) ≡ Some form.Share → ⊥
-three_words true nd (Some l) s is = cc
-three_words true nd None s is = cc
-three_words false true l (Some s) is = cc
-three_words false true l None is = cc
-three_words false false l s is = cc
-
-two_words : (make array table : Bool) (n : Option ℕ) (c : Option ArrayCode) (l : Option Listing) →
-    cond make (made n) (cond array (array_of c) (cond table (tabled l) None)) ≡ Some form.Share → ⊥
-two_words true array table (Some n) c l is = cc
-two_words true array table None c l is = cc
-two_words false true table n (Some c) l is = cc
-two_words false true table n None l is = cc
-two_words false false table n c l is = more_words table l is
-
--- A single word that isn't `share` doesn't ask for sessions.
-pub alone_one : (word : List ℕ) → bytes_eq word (codes "share") ≡ false → alone (form_of (word ∷ [])) ≡ form_of (word ∷ [])
-alone_one word other = alone_same (form_of (word ∷ [])) (one_word (bytes_eq word (codes "run")) (bytes_eq word (codes "share")) other)
-
--- Another number of words doesn't ask for them either.
-pub alone_others : (words : List (List ℕ)) → length words ≢ 1 → alone (form_of words) ≡ form_of words
-alone_others [] other = refl
-alone_others (word ∷ []) other = absurd (other refl)
-alone_others (word ∷ argument ∷ []) other =
-    alone_same (form_of (word ∷ argument ∷ []))
-    (two_words (bytes_eq word (codes "make")) (bytes_eq word (codes "array")) (bytes_eq word (codes "table")) (script_number_in argument)
-    (array_code_in argument) (listing_in (argument ∷ [])))
-alone_others (word ∷ argument ∷ further ∷ more) other =
-    alone_same (form_of (word ∷ argument ∷ further ∷ more))
-    (three_words (bytes_eq word (codes "table")) (bytes_eq word (codes "nd")) (listing_in (argument ∷ further ∷ more)) (selection_in (argument ∷ further ∷ more)))
 
 -- With one thread, no run ends as a disagreement.
 pub agrees_alone : {S K : Type 0} (words : List (List ℕ)) (asked other : Option Form) (result : Status)

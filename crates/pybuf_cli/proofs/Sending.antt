@@ -65,14 +65,6 @@ sends_all old mid new first second lent then rest e f before after none = record
 pub sends_same : (old new : Option (List ℕ)) (text both rest : List ℕ) → text ≡ both → Sends old text rest new → Sends old both rest new
 sends_same old new text both rest same sends = subst (λ (x : List ℕ). Sends old x rest new) same sends
 
--- A text was put, and nothing waits.
-pub sends_whole : (old new : Option (List ℕ)) (text rest : List ℕ) → Put old text new → rest ≡ [] → Sends old text rest new
-sends_whole old new text rest put none = record {
-  sent = text;
-  whole = sym (ap (λ x. text ++ x) none ∙ append-nil text);
-  put = put;
-}
-
 -- No byte is put, and the whole text waits.
 pub sends_later : (old : Option (List ℕ)) (text : List ℕ) → Sends old text text old
 sends_later old text = record { sent = []; whole = refl; put = put_nothing old }

@@ -20,7 +20,7 @@ use Rattle.pybuf_cli.specs.Devices.{Took, AtEnd, Put, PutPrefix, Sends}
 use Rattle.pybuf_cli.specs.Program.{most, TakesFront}
 use Rattle.pybuf_cli.specs.Tables.{text_of_table, ending_of_table, table_text, table_ending, IsListed, IsBadData}
 use Rattle.pybuf_cli.specs.Serving.{ServesForm}
-use Rattle.pybuf_cli.proofs.Sending.{put_nothing, put_front, sends_nothing, sends_more, sends_put, sends_front, sends_then_front}
+use Rattle.pybuf_cli.proofs.Sending.{put_nothing, put_front, sends_more, sends_put, sends_front, sends_then_front}
 use Rattle.pybuf_cli.proofs.Served.{took_all, held_is}
 
 -- ---- the records
@@ -38,9 +38,6 @@ pub record IsTabling (l : Listing) (input rest : List ℕ) (old : Option (List �
   pub text : List ℕ
   pub due : listing_text l input ≡ text ++ listing_text l rest
   pub sends : Sends old text waiting held
-
-pub tabling_begins : (l : Listing) (input : List ℕ) (old : Option (List ℕ)) → IsTabling l input input old [] old
-tabling_begins l input old = record { text = []; due = refl; sends = sends_nothing old }
 
 -- the text that is due, with the line of one more record
 due_behind : (l : Listing) (input rest after text before line : List ℕ) → listing_text l input ≡ text ++ listing_text l rest → before ≡ [] →

@@ -1,8 +1,8 @@
 -- What stands at the front of a list, and what is left behind it.
-use Rattle.std.proofs.Common.{◌≡◌, ℕ, ◌+◌, ◌-◌, ◌<◌, ◌≤◌, ◌^◌, min, Bool, true, false, List, [], ◌++◌, take, drop, length, Option, Some, Result, Ok, Err, refl, sym, ◌∙◌, ap, subst, arith}
+use Rattle.std.proofs.Common.{◌≡◌, ℕ, ◌+◌, ◌-◌, ◌<◌, ◌≤◌, ◌^◌, Bool, true, false, List, [], ◌++◌, take, drop, length, Option, Some, Result, Ok, Err, refl, sym, ◌∙◌, ap, subst, arith}
 use Rattle.std.proofs.lemmas.List.{take-append-drop, drop-drop, take_rest, take-take, append_assoc, length-take, length-drop}
 use Rattle.std.proofs.Math.Seq.{take-add}
-use Rattle.pybuf_cli.specs.Devices.{Took, AtEnd, Put, Counts}
+use Rattle.pybuf_cli.specs.Devices.{Took, Put, Counts}
 use Rattle.pybuf_cli.specs.declared.devices.PutFault.{PutFault}
 use Rattle.pybuf_cli.specs.declared.devices.PutFault.TheVariants as fault
 
@@ -11,13 +11,6 @@ pub took_front : (left rest front : List ℕ) (count : ℕ) → front ≡ take c
 took_front left rest front count moved stays l h =
     let here : l ≡ left = cc in
     (rest, here ∙ (sym (take-append-drop count left) ∙ (ap (λ x. x ++ drop count left) (sym moved) ∙ ap (λ x. front ++ x) (sym stays))), refl)
-
--- If no byte was moved although there was room, none was left.
-pub none_left : (left rest : List ℕ) (room most count : ℕ) → count ≡ min (min (length left) room) most → rest ≡ drop count left →
-    count ≡ 0 → 0 < room → 0 < most → AtEnd (Some rest)
-none_left left rest room most count is stays none some more r told =
-    let same : r ≡ rest = cc in
-    omega (arith, ap length same, ap length stays, length-drop count left, is, none, some, more)
 
 -- The slice of the bytes from a place on is what is left there.
 pub lent_rest : (left bytes lent : List ℕ) (taken : ℕ) → drop taken bytes ≡ left → lent ≡ bytes →

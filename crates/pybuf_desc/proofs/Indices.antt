@@ -21,24 +21,11 @@ pub position_from-0 : (r : Result ℤ Fault) → r ≡ position_from (pos 0) r
 position_from-0 (Ok n) = ap (λ (m : ℤ). Ok m) (let e : n ≡ pos 0 +ℤ n = omega (arith, ints) in e)
 position_from-0 (Err f) = refl
 
-position_from-Ok : (offset m n : ℤ) → position_from offset (Ok (m +ℤ n)) ≡ position_from (offset +ℤ m) (Ok n)
-position_from-Ok offset m n = ap (λ (k : ℤ). Ok k) (let e : offset +ℤ (m +ℤ n) ≡ offset +ℤ m +ℤ n = omega (arith, ints) in e)
-
-position-cons : (offset index : ℤ) (i : ℕ) (dim : ℕ × ℤ × ℤ) (r : Result ℤ Fault) → position_from offset (elim r [ Ok others ↦ Ok (pos i *ℤ dim.1 +ℤ others) | Err f ↦ Err f ]) ≡ position_from (offset +ℤ pos i *ℤ dim.1) r
-position-cons offset index i dim (Ok n) = position_from-Ok offset (pos i *ℤ dim.1) n
-position-cons offset index i dim (Err f) = refl
-
 pub AreNonzero-from_indices : (indices : List ℕ) (dims : List (ℕ × ℤ × ℤ)) → AreIndices indices dims → AreNonzero dims
 AreNonzero-from_indices [] [] h = tt
 AreNonzero-from_indices [] (dim ∷ dims) h = absurd h
 AreNonzero-from_indices (i ∷ indices) [] h = absurd h
 AreNonzero-from_indices (i ∷ indices) (dim ∷ dims) h = (let low = h.0 in omega arith, AreNonzero-from_indices indices dims h.1)
-
-pub length_of_indices : (indices : List ℕ) (dims : List (ℕ × ℤ × ℤ)) → AreIndices indices dims → length indices ≡ length dims
-length_of_indices [] [] h = refl
-length_of_indices [] (dim ∷ dims) h = absurd h
-length_of_indices (i ∷ indices) [] h = absurd h
-length_of_indices (i ∷ indices) (dim ∷ dims) h = ap suc (length_of_indices indices dims h.1)
 
 -- ---- one step of a walk over the dimensions
 

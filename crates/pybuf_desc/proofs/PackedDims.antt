@@ -1,5 +1,5 @@
 -- Items without gaps from place 0 on, in the shape of a descriptor.
-use Rattle.std.proofs.Common.{◌≡◌, ◌≢◌, ℕ, zero, suc, ◌+◌, ◌*◌, ◌/◌, ◌^◌, ◌<◌, ◌≤◌, ℤ, pos, List, [], ◌∷◌, ◌++◌, length, get_or, map, drop, drop-cons, refl, ap, ap₂, sym, ◌∙◌, subst, arith, mul_comm, mul-pos, append_assoc, append-nil, drop_of_length-le}
+use Rattle.std.proofs.Common.{◌≡◌, ◌≢◌, ℕ, zero, suc, ◌+◌, ◌*◌, ◌/◌, ◌^◌, ◌<◌, ◌≤◌, ℤ, pos, List, [], ◌∷◌, ◌++◌, length, get_or, map, drop, drop-cons, refl, ap, ap₂, sym, ◌∙◌, subst, arith, mul_comm, mul-pos, append_assoc}
 use Rattle.std.proofs.Math.Nat.{div-le_self}
 use Rattle.std.specs.Prelude.{All}
 use Rattle.std.specs.List.{AllByRecursion, range_with_len}
@@ -75,10 +75,6 @@ packed_step itemsize size next n i dims made more below here later none some e f
           ∙ ap (λ (k : ℕ). made ++ (n, pos k, pos 0) ∷ row_major_dims itemsize (shape_of rest)) (sym counted)
           ∙ ap (λ (ns : List ℕ). made ++ row_major_dims itemsize ns) (sym cut) ∙ so_far;
     }
-
-pub packed_done : (itemsize i : ℕ) (dims made : List (ℕ × ℤ × ℤ)) → length dims ≤ i → made ++ row_major_dims itemsize (shape_of (drop i dims)) ≡ row_major_dims itemsize (shape_of dims) → made ≡ row_major_dims itemsize (shape_of dims)
-packed_done itemsize i dims made past e =
-    sym (append-nil made) ∙ sym (ap (λ (ds : List (ℕ × ℤ × ℤ)). made ++ row_major_dims itemsize (shape_of ds)) (drop_of_length-le dims past)) ∙ e
 
 -- ---- validity
 

@@ -10,7 +10,7 @@ use Rattle.pybuf_desc.specs.Places.{places}
 use Rattle.pybuf_desc.specs.Positions.{AreIndices, offset_of, number_of_item}
 use Rattle.pybuf_desc.specs.Valid.{IsInside}
 use Rattle.pybuf_desc.specs.Segments.{HasPlaces, AreWithin, IsRow, start_from, rows_left}
-use Rattle.pybuf_desc.proofs.Indices.{place_of_item, number_below}
+use Rattle.pybuf_desc.proofs.Indices.{place_of_item}
 use Rattle.pybuf_desc.proofs.Moves.{dim_at}
 
 -- ---- indices with more behind them
@@ -38,9 +38,6 @@ place_within indices dims p h =
     ap (λ n. slice_get (places dims p) n) (sym (number-take indices dims))
     ∙ place_of_item (take (length dims) indices) dims p (within_take indices dims h)
     ∙ ap (λ (z : ℤ). Some (p +ℤ z)) (offset-take indices dims)
-
-below_product : (indices : List ℕ) (dims : List (ℕ × ℤ × ℤ)) → AreWithin indices dims → number_of_item indices dims < product (shape_of dims)
-below_product indices dims h = subst (λ n. n < product (shape_of dims)) (number-take indices dims) (number_below (take (length dims) indices) dims (within_take indices dims h))
 
 inside_get : (P : ℤ → Type 0) (xs : List ℤ) (k : ℕ) (z : ℤ) → slice_get xs k ≡ Some z → AllByRecursion P xs → P z
 inside_get P [] k z e all = absurd (cc)

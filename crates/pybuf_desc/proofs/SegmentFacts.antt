@@ -1,8 +1,7 @@
 -- What the ranges of a walk are. They are blocks of items, and have the bytes of the items in order.
-use Rattle.std.proofs.Common.{◌≡◌, ℕ, zero, suc, ◌+◌, ◌-◌, ◌*◌, ◌^◌, ◌<◌, ◌≤◌, ℤ, pos, negsuc, ◌+ℤ◌, ◌≤ℤ◌, nat_abs, cond, eqb, List, [], ◌∷◌, ◌++◌, length, take-append-drop, map, flat_map, refl, ap, ap₂, sym, ◌∙◌, subst, arith, length-append, mul_comm, lit<, All}
+use Rattle.std.proofs.Common.{◌≡◌, ℕ, zero, suc, ◌+◌, ◌-◌, ◌*◌, ◌^◌, ◌<◌, ◌≤◌, ℤ, pos, negsuc, ◌+ℤ◌, ◌≤ℤ◌, nat_abs, cond, eqb, List, [], ◌∷◌, ◌++◌, length, take-append-drop, map, flat_map, refl, ap, ap₂, sym, ◌∙◌, subst, arith, length-append, mul_comm}
 use Rattle.std.proofs.lemmas.Int.{ints}
 use Rattle.std.proofs.lemmas.Grind.{flat_map-append}
-use Rattle.std.proofs.lemmas.List.{length-take-le}
 use Rattle.std.proofs.lemmas.List.Elements.{recursion_from_All}
 use Rattle.std.specs.List.{AllByRecursion, range_with_len}
 use Rattle.std.specs.declared.ops.Range.{Range}
@@ -94,14 +93,6 @@ ranges_by_rows rows last outer start size stride is st =
     ap (λ (t : ℤ). map (range_at size) (row_places rows start t last.0)) st
     ∙ ap (λ (ps : List ℤ). map (range_at size) ps) (sym (ap (λ (ds : List (ℕ × ℤ × ℤ)). places ds (pos start)) is ∙ places-rows rows last (pos start)))
 
--- a single block is a row of one
-pub walk_of_one : (outer : List (ℕ × ℤ × ℤ)) (start size : ℕ) → length outer ≤ 64 → HasPlaces outer (pos start) → AllByRecursion (IsInside size top) (places outer (pos start)) → AreRows outer start (pos 0) 1 size
-walk_of_one outer start size few placed inside =
-    record { few = few; placed = placed; row_some = lit< tt; inside = subst (AllByRecursion (IsInside size top)) (sym (ones (pos 0) (places outer (pos start)))) inside }
-
-pub ranges_of_one : (outer : List (ℕ × ℤ × ℤ)) (start size : ℕ) → map (range_at size) (row_places outer start (pos 0) 1) ≡ map (range_at size) (places outer (pos start))
-ranges_of_one outer start size = ap (λ (ps : List ℤ). map (range_at size) ps) (ones (pos 0) (places outer (pos start)))
-
 -- ---- a descriptor of which so many last dimensions are joined
 
 pub record IsJoined (d : Descriptor) (start joined : ℕ) : Type 0 where
@@ -148,18 +139,9 @@ blocks_inside d start joined size r is =
     subst (λ (n : ℕ). AllByRecursion (IsInside n top) (places (outer_dims joined d.dims) (pos start))) (mul_comm (block_count d joined) d.itemsize ∙ sym is)
     (rows_whole d.itemsize (block_count d joined) (places (outer_dims joined d.dims) (pos start)) (block_some d start joined r) (lines_inside d start joined r))
 
-pub blocks_few : (d : Descriptor) (start joined : ℕ) → IsJoined d start joined → length (outer_dims joined d.dims) ≤ 64
-blocks_few d start joined r =
-    let all = r.placed.valid.few_dimensions in
-    let long : length (outer_dims joined d.dims) ≡ length d.dims - joined = length-take-le (length d.dims - joined) d.dims (omega arith) in
-    omega (arith, all, long)
-
 pub block_fits : (d : Descriptor) (start joined : ℕ) → IsJoined d start joined → d.itemsize * block_count d joined < 2 ^ 63
 block_fits d start joined r =
     size_below d.itemsize (length d.dims - joined) d.dims (All-from_AreNonzero d.dims r.some) (bytes_fit d (record { start = start; placed = r.placed }) r.some)
-
-pub block_entries : (d : Descriptor) (start joined : ℕ) → IsJoined d start joined → All (λ dim. 0 < dim.0) (joined_dims joined d.dims)
-block_entries d start joined r = All-from_AreNonzero (joined_dims joined d.dims) (some_block d start joined r).1
 
 -- ---- the ranges
 

@@ -1,5 +1,5 @@
 -- Items without gaps as items of another size in another shape over the same bytes.
-use Rattle.std.proofs.Common.{◌≡◌, ◌≢◌, ℕ, zero, suc, ◌+◌, ◌*◌, ◌/◌, ◌^◌, ◌<◌, ◌≤◌, ℤ, pos, ◌+ℤ◌, ◌≤ℤ◌, List, [], ◌∷◌, ◌++◌, length, get_or, drop, drop-cons, refl, ap, ap₂, sym, ◌∙◌, subst, arith, mul_comm, mul-pos, mul-zero, mul-div_cancel, append_assoc, append-nil, drop_of_length-le}
+use Rattle.std.proofs.Common.{◌≡◌, ◌≢◌, ℕ, zero, suc, ◌+◌, ◌*◌, ◌/◌, ◌^◌, ◌<◌, ◌≤◌, ℤ, pos, ◌+ℤ◌, ◌≤ℤ◌, List, [], ◌∷◌, ◌++◌, length, get_or, drop, drop-cons, refl, ap, ap₂, sym, ◌∙◌, subst, arith, mul_comm, mul-pos, mul-zero, mul-div_cancel, append_assoc}
 use Rattle.std.proofs.Math.Nat.{div-le_self}
 use Rattle.std.specs.Prelude.{All}
 use Rattle.std.specs.List.{AllByRecursion}
@@ -157,7 +157,3 @@ dim_step itemsize size n i shape dims more below here some e fits so_far =
           ∙ ap (λ (k : ℕ). dims ++ (n, pos k, pos 0) ∷ row_major_dims itemsize later) size_is
           ∙ ap (λ (ns : List ℕ). dims ++ row_major_dims itemsize ns) (sym cut) ∙ so_far;
     }
-
-pub dims_done : (itemsize i : ℕ) (shape : List ℕ) (dims : List (ℕ × ℤ × ℤ)) → length shape ≤ i → dims ++ row_major_dims itemsize (drop i shape) ≡ row_major_dims itemsize shape → dims ≡ row_major_dims itemsize shape
-dims_done itemsize i shape dims past e =
-    sym (append-nil dims) ∙ sym (ap (λ (ns : List ℕ). dims ++ row_major_dims itemsize ns) (drop_of_length-le shape past)) ∙ e

@@ -145,23 +145,6 @@ equivalence law = record {
 chosen : (a b c : Bool) → a ≡ true → b ≡ true → (a && (b && c)) ≡ c
 chosen a b c p q = ap₂ (λ (x y : Bool). x && (y && c)) p q
 
-refuted : (a c : Bool) → (a ≡ true → ⊥) → (a && c) ≡ false
-refuted true c denied = absurd (denied refl)
-refuted false c denied = refl
-
-not_first : (n m : ℕ) (c : Bool) → (n ≡ m → ⊥) → ((n == m) && c) ≡ false
-not_first n m c differ = refuted (n == m) c (λ e. differ (eqb-true n m e))
-
-refuted_second : (a b c : Bool) → b ≡ false → (a && (b && c)) ≡ false
-refuted_second true b c denied = ap (λ (x : Bool). x && c) denied
-refuted_second false b c denied = refl
-
-pub other_dimensions : (s t : Snap) → (length s.shape ≡ length t.shape → ⊥) → false ≡ same_view s t
-other_dimensions s t differ = sym (not_first (length s.shape) (length t.shape) (shapes_agree s.shape t.shape && same_items (items_of_snap s) (items_of_snap t)) differ)
-
-pub other_shapes : (s t : Snap) → shapes_agree s.shape t.shape ≡ false → false ≡ same_view s t
-other_shapes s t differ = sym (refuted_second (length s.shape == length t.shape) (shapes_agree s.shape t.shape) (same_items (items_of_snap s) (items_of_snap t)) differ)
-
 pub by_items : (s t : Snap) → length s.shape ≡ length t.shape → shapes_agree s.shape t.shape ≡ true → same_view s t ≡ same_items (items_of_snap s) (items_of_snap t)
 by_items s t long agree = chosen (length s.shape == length t.shape) (shapes_agree s.shape t.shape) (same_items (items_of_snap s) (items_of_snap t)) (eq-eqb (length s.shape) (length t.shape) long) agree
 

@@ -36,9 +36,6 @@ reads_char x = refl
 
 -- ---- equal items are the same byte
 
-top_or_not : (x : ℕ) (b : Bool) → has_top_bit 1 x ≡ b → signed_byte x ≡ (if b then pos x -ℤ pos 256 else pos x)
-top_or_not x b is = ap (λ (t : Bool). if t then pos x -ℤ pos 256 else pos x) is
-
 chosen_alike : (x y : ℕ) (a b : Bool) → x < 256 → y < 256 → (if a then pos x -ℤ pos 256 else pos x) ≡ (if b then pos y -ℤ pos 256 else pos y) → x ≡ y
 chosen_alike x y true true small other e = omega (arith, ints, e)
 chosen_alike x y true false small other e = absurd (omega (arith, ints, e, small))

@@ -205,9 +205,6 @@ pub always_on_err : {R E : Type 0} (P : Type 0) (r : Result R E) → P → OnErr
 always_on_err P (Ok x) holds = tt
 always_on_err P (Err e) holds = holds
 
-pub stored_on_err : {R E : Type 0} (r : Result R E) (old new : Exporter) (m n : ℕ) → OnErr r (new ≡ old) → n ≡ m → OnErr r (stored new n ≡ stored old m)
-stored_on_err r old new m n same rooms = where_err _ _ r same (λ exporters. same_stored new old n m exporters rooms)
-
 -- ---- queues
 
 -- The moves so far and the room after a step are together at most the moves and the room before it and what it

@@ -65,9 +65,6 @@ use Rattle.pybuf_exporter.specs.Owning.{reply_owns, hands_over, OwningRepliesCha
 abbrev IsPlainOrSame : Exporter → Exporter × LocalReply → Type 0
 IsPlainOrSame e after = reply_owns after.1 ≡ true → after.0 ≡ e
 
-Effect : Type 0
-Effect = Result (Exporter × LocalReply) Fault
-
 bind : {A : Type 0} (e : Exporter) (r : Result A Fault) (f : A → Result (Exporter × LocalReply) Fault) → ((a : A) → IfDone (IsPlainOrSame e) (f a)) → IfDone (IsPlainOrSame e) (r >>= f)
 bind e r f after = done_bind (IsPlainOrSame e) r f (λ a _. after a)
 

@@ -6,21 +6,12 @@ use Rattle.pybuf_value.specs.declared.faults.Fault.{Fault}
 use Rattle.pybuf_value.specs.declared.values.PySlice.{PySlice}
 use Rattle.pybuf_value.specs.Refusing.{◌>>=◌}
 use Rattle.pybuf_index.specs.Picks.{start_of, stop_of, steps_to, picks}
-use Rattle.pybuf_index.specs.Parts.{SliceParts, step_in, part_in, nearest_word, clamped_part, clamped_parts, saturated_parts_of, picks_of}
+use Rattle.pybuf_index.specs.Parts.{SliceParts, step_in, part_in, nearest_word, clamped_part, clamped_parts, picks_of}
 use Rattle.pybuf_index.specs.Laws.{SameAsItsParts, IndicesAgree}
 use Rattle.pybuf_index.proofs.LawLemmas.{same_when_clamped}
 
 abbrev chosen : Result ℤ Fault → Result (Option ℤ) Fault → Result (Option ℤ) Fault → Result SliceParts Fault
 chosen step start stop = step >>= (λ s. start >>= (λ a. stop >>= (λ b. Ok (record { start = a; stop = b; step = s }))))
-
-same_chosen : (step : Result ℤ Fault) (start stop : Result (Option ℤ) Fault) → IfOk step (λ s. s ≢ pos 0) → IfOk (chosen step start stop >>= (λ parts. Ok (clamped_parts parts))) (λ saturated. IfOk (chosen step start stop) (λ parts. (n : ℕ) → n < 2 ^ 63 → picks_of n saturated ≡ picks_of n parts))
-same_chosen (Err e) start stop moves = tt
-same_chosen (Ok s) (Err e) stop moves = tt
-same_chosen (Ok s) (Ok a) (Err e) moves = tt
-same_chosen (Ok s) (Ok a) (Ok b) moves = λ n h. same_when_clamped n a b s moves h
-
-pub same_as_its_parts : (slice : PySlice) → IfOk (saturated_parts_of slice) (λ saturated. SameAsItsParts slice saturated)
-same_as_its_parts slice = same_chosen (step_in slice.step) (part_in slice.start) (part_in slice.stop) (if_ok_step_moves slice.step)
 
 steps-picks : (n : ℕ) (a b : Option ℤ) (s : ℤ) → steps_to n (start_of n a s) (stop_of n b s) s ≡ picks n a b s
 unfolding picks

@@ -201,12 +201,6 @@ run_of_stride low high (suc t) count least true some c l =
     let moves : negsuc t ≢ pos 0 = λ e. omega (arith, ints, e) in
     run_of_span low high (negsuc t) count least (suc t) true moves (c ∙ sym (length-picks_in_span low high (negsuc t) moves)) l refl refl
 
-pub stride_fits : (low high stride count : ℕ) → 0 < stride → low ≤ high → count ≡ how_many low high stride → low + (count - 1) * stride ≤ high
-stride_fits low high zero count some ordered c = absurd (omega arith)
-stride_fits low high (suc t) count some ordered c =
-    let moves : pos (suc t) ≢ pos 0 = λ e. omega (arith, ints, e) in
-    run_fits low high (pos (suc t)) count moves ordered (c ∙ sym (length-picks_in_span low high (pos (suc t)) moves))
-
 -- ---- numbers that are taken from a run
 
 pub run_top_first : (falls : Bool) (low s k : ℕ) → falls ≡ true → k ≢ 0 → run_of falls low s k ≡ (low + (k - 1) * s) ∷ run_of falls low s (k - 1)

@@ -1,5 +1,5 @@
 -- The commands of lines, after one more line.
-use Rattle.std.proofs.Common.{◌≡◌, ℕ, ◌+◌, List, [], ◌∷◌, ◌++◌, refl, sym, ◌∙◌, ap, Result, Ok, Err, Some, None}
+use Rattle.std.proofs.Common.{◌≡◌, ℕ, ◌+◌, List, [], ◌∷◌, ◌++◌, refl, sym, ◌∙◌, ap, Result, Ok, Err, Some}
 use Rattle.std.proofs.lemmas.List.{append_assoc}
 use Rattle.pybuf_command.specs.declared.worlds.Command.{Command}
 use Rattle.pybuf_line.specs.Scalars.{handle_in}
@@ -26,15 +26,3 @@ next_command all commands n rest line after c cut spells h =
     ∙ (ap (λ l. onto commands (commands_from handle_in (n + 1) l)) cut
     ∙ (ap (λ x. onto commands (before (n + 1) x (commands_from handle_in (n + 1 + 1) (lines after)))) spells
     ∙ onto_before commands (n + 1) c (commands_from handle_in (n + 1 + 1) (lines after))))
-
-pub no_command_next : (all : Result (List Command) ℕ) (commands : List Command) (n : ℕ) (rest line after : List ℕ) →
-    lines rest ≡ line ∷ lines after → command_in handle_in line ≡ None →
-    all ≡ onto commands (commands_from handle_in (n + 1) (lines rest)) → all ≡ Err (n + 1)
-no_command_next all commands n rest line after cut none h =
-    h
-    ∙ (ap (λ l. onto commands (commands_from handle_in (n + 1) l)) cut
-    ∙ ap (λ x. onto commands (before (n + 1) x (commands_from handle_in (n + 1 + 1) (lines after)))) none)
-
-pub all_commands : (all : Result (List Command) ℕ) (commands : List Command) (n : ℕ) (rest : List ℕ) → lines rest ≡ [] →
-    all ≡ onto commands (commands_from handle_in (n + 1) (lines rest)) → all ≡ Ok (commands ++ [])
-all_commands all commands n rest none h = h ∙ ap (λ l. onto commands (commands_from handle_in (n + 1) l)) none

@@ -109,11 +109,6 @@ pub h_first : (text : List ℕ) → 1 ≤ length text → get_or text 0 0 ≡ 10
 h_first [] some h = absurd (omega (arith, some))
 h_first (b ∷ bs) some h = by_h b bs h
 
-pub other_first : (text : List ℕ) → 1 ≤ length text → is_ascii_digit (get_or text 0 0) ≡ false → get_or text 0 0 ≢ 120 → get_or text 0 0 ≢ 45 →
-    get_or text 0 0 ≢ 104 → plain_in handle_in text ≡ constant_in text
-other_first [] some h n1 n2 n3 = absurd (omega (arith, some))
-other_first (b ∷ bs) some h n1 n2 n3 = by_other b bs h n1 n2 n3
-
 pub quote_first : (text : List ℕ) → 1 ≤ length text → get_or text 0 0 ≡ 39 → scalar_in handle_in text ≡ text_in text
 quote_first [] some h = absurd (omega (arith, some))
 quote_first (b ∷ bs) some h = by_quote b bs h

@@ -3,7 +3,6 @@ use Rattle.std.proofs.Common.{◌≡◌, ℕ, zero, suc, ◌+◌, ◌*◌, ◌-�
 use Rattle.std.specs.List.{flat_map}
 use Rattle.std.proofs.lemmas.List.{append_assoc, append-nil}
 use Rattle.std.proofs.Math.Seq.{take-length}
-use Rattle.std.proofs.Math.Nat.{mul-div-le}
 use Rattle.pybuf_value.specs.declared.values.Item.{Item}
 use Rattle.pybuf_value.specs.Spelling.{handle_text, item_text, list_text, next_part_text}
 use Rattle.pybuf_command.specs.Shown.{cut, nested_text}
@@ -19,26 +18,11 @@ left_text inner n size items = flat_map (next_part_text (block_text inner)) (cut
 one_left : (i n : ℕ) → i < n → n - i ≡ suc (n - (i + 1))
 one_left i n h = omega (arith, h)
 
--- There is room for each block.
-pub fits : (i n size len : ℕ) → i < n → (n - i) * size ≤ len → size ≤ len
-fits i n size len h k =
-    let m = n - (i + 1) in
-    let e : suc m * size ≤ len = rw (sym (one_left i n h)) k in
-    omega (arith, e)
-
 pub fits_then : (i n size len rest : ℕ) → i < n → (n - i) * size ≤ len → rest + size ≡ len → (n - (i + 1)) * size ≤ rest
 fits_then i n size len rest h k r =
     let m = n - (i + 1) in
     let e : suc m * size ≤ len = rw (sym (one_left i n h)) k in
     omega (arith, e, r)
-
-pub fits_first : (n len rest : ℕ) → 0 < n → rest + len / n ≡ len → (n - 1) * (len / n) ≤ rest
-fits_first zero len rest h r = omega (arith, h)
-fits_first (suc n) len rest h r =
-    let size = len / suc n in
-    let e : suc n * size ≤ len = mul-div-le len (suc n) in
-    let one : suc n - 1 ≡ n = omega arith in
-    rw one (omega (arith, e, r))
 
 -- one more block
 pub block_more : (inner : List ℕ) (i n size : ℕ) (items block rest : List Item) (all out out1 out2 : List ℕ) → i < n →

@@ -9,13 +9,13 @@ use Rattle.std.proofs.lemmas.Slice.Eq.{bytes_eq-Decides}
 use Rattle.std.proofs.lemmas.Fmt.{decimal_is_IsNumeral_wide}
 use Rattle.pybuf_lemmas.proofs.Numbers.{passed_numbers_are_equal, number_equals_itself, value_below_ten_is_digit}
 use Rattle.pybuf_line.specs.Facts.{number_read}
-use Rattle.hex.specs.Hex.{IsBytes, encode_lower}
+use Rattle.hex.specs.Hex.{encode_lower}
 use Rattle.hex.proofs.HexLemmas.{decode_of-encode_lower}
 use Rattle.pybuf_value.specs.declared.values.Scalar.{Scalar}
 use Rattle.pybuf_value.specs.declared.values.Scalar.TheVariants as scalar
 use Rattle.pybuf_line.specs.Parts.{parts_from}
 use Rattle.pybuf_value.specs.Spelling.{handle_text}
-use Rattle.pybuf_line.specs.Scalars.{constant_in, whole_in, bytes_in, positive_in, before_end, plain_in, scalar_in, written_scalar, handle_in}
+use Rattle.pybuf_line.specs.Scalars.{constant_in, whole_in, positive_in, before_end, plain_in, scalar_in, written_scalar, handle_in}
 use Rattle.pybuf_line.specs.Laws.{PartsJoin, IsOnePart, PartsAreSingle, EnclosedIsBetween, BetweenIsEnclosed, IsSpelled, IsSlicePart, ScalarsReadBack}
 use Rattle.pybuf_line.proofs.Commas.{some_part, quote_cuts, other_cuts}
 
@@ -149,9 +149,6 @@ number_reads (negsuc n) h =
 
 pub no_number : (c : ℕ) (cs : List ℕ) → is_ascii_digit c ≡ false → (c == 45) ≡ false → whole_in (c ∷ cs) ≡ None
 no_number c cs h s = grind (arith, tests)
-
-pub hex_read : (bs : List ℕ) → IsBytes bs → bytes_in (120 ∷ encode_lower bs) ≡ Some (scalar.Bytes bs)
-hex_read bs h = rw (decode_of-encode_lower bs h) refl
 
 bytes_read : (bs : List ℕ) → IsSpelled (scalar.Bytes bs) → plain_in handle_in (written_scalar handle_text (scalar.Bytes bs)) ≡ Some (scalar.Bytes bs)
 unfolding constant_in

@@ -1,5 +1,5 @@
 -- Runs of commands, one after the other.
-use Rattle.std.proofs.Common.{◌≡◌, ℕ, suc, ◌+◌, Bool, cond, List, [], ◌∷◌, ◌++◌, length, count_by, refl, sym, ◌∙◌, ap, subst, arith}
+use Rattle.std.proofs.Common.{◌≡◌, ℕ, suc, ◌+◌, Bool, cond, List, [], ◌∷◌, ◌++◌, length, count_by, sym, ◌∙◌, ap, subst, arith}
 use Rattle.std.specs.Prelude.{None}
 use Rattle.std.specs.List.{flat_map, range_with_len}
 use Rattle.std.proofs.lemmas.List.Sums.{sum_by-append}
@@ -18,10 +18,6 @@ use Rattle.pybuf_make.specs.Counting.{HasRun}
 
 count_both : (p : Reply → Bool) (xs ys : List Reply) → count_by p (xs ++ ys) ≡ count_by p xs + count_by p ys
 count_both p xs ys = sum_by-append (λ x. cond (p x) 1 0) xs ys
-
--- No command was run.
-pub runs_none : (a : Counted) → HasRun a [] a
-runs_none a = record { world = refl; lines = omega arith; refused = omega arith }
 
 -- One run follows another.
 pub runs_on : (a b c : Counted) (xs ys : List Command) → HasRun a xs b → HasRun b ys c → HasRun a (xs ++ ys) c

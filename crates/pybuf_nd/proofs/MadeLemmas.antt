@@ -1,10 +1,9 @@
 -- The steps of walks over dimensions.
-use Rattle.std.proofs.Common.{◌≡◌, ◌≢◌, ℕ, zero, suc, ◌+◌, ◌*◌, ◌^◌, ◌<◌, ℤ, pos, Bool, true, List, ◌∷◌, length, get_or, drop, drop-cons, refl, ap, sym, ◌∙◌, subst, arith, add-one, mul_assoc, mul-zero, zero-mul, mul-le-mul_left, le-mul_of_pos_right, lt_of_le_of_lt}
+use Rattle.std.proofs.Common.{◌≡◌, ℕ, zero, suc, ◌+◌, ◌*◌, ◌^◌, ◌<◌, ℤ, pos, List, ◌∷◌, length, get_or, drop, drop-cons, ap, sym, ◌∙◌, subst, arith, add-one, mul_assoc, mul-zero, zero-mul, mul-le-mul_left, le-mul_of_pos_right, lt_of_le_of_lt}
 use Rattle.pybuf_desc.specs.Facts.{positive_extent}
 use Rattle.pybuf_desc.specs.Layouts.{product}
 use Rattle.pybuf_desc.specs.Descriptor.{shape_of}
 use Rattle.pybuf_desc.specs.Valid.{nonzero_entries}
-use Rattle.pybuf_nd.specs.Selections.{has_zero}
 
 abbrev pub dim_at : List (ℕ × ℤ × ℤ) → ℕ → ℕ × ℤ × ℤ
 dim_at dims k = get_or dims k (0, pos 0, pos 0)
@@ -29,21 +28,3 @@ bytes_more dims i bytes total below h e =
       mul_assoc bytes (dim_at dims i).0 (product (shape_of (drop (suc i) dims))) ∙ sym (ap (λ ds. bytes * product (shape_of ds)) (drop-cons dims i (0, pos 0, pos 0) below)) ∙ e,
       fits_more bytes (dim_at dims i).0 (shape_of (drop (suc i) dims)) (subst (λ ds. bytes * product (nonzero_entries (shape_of ds)) < 2 ^ 63) (drop-cons dims i (0, pos 0, pos 0) below) h),
     )
-
--- ---- zeros
-
-some_entry : (n : ℕ) (shape : List ℕ) → n ≢ 0 → has_zero (n ∷ shape) ≡ has_zero shape
-some_entry zero shape h = absurd (h refl)
-some_entry (suc n) shape h = refl
-
-no_entry : (n : ℕ) (shape : List ℕ) → n ≡ 0 → has_zero (n ∷ shape) ≡ true
-no_entry zero shape e = refl
-no_entry (suc n) shape e = absurd (omega (arith, e))
-
-pub zero_more : (dims : List (ℕ × ℤ × ℤ)) (i : ℕ) (b : Bool) → i < length dims → (dim_at dims i).0 ≢ 0 → has_zero (shape_of (drop i dims)) ≡ b → has_zero (shape_of (drop (i + 1) dims)) ≡ b
-zero_more dims i b below h e =
-    rw add-one (sym (some_entry (dim_at dims i).0 (shape_of (drop (suc i) dims)) h) ∙ sym (ap (λ ds. has_zero (shape_of ds)) (drop-cons dims i (0, pos 0, pos 0) below)) ∙ e)
-
-pub zero_found : (dims : List (ℕ × ℤ × ℤ)) (i : ℕ) (b : Bool) → i < length dims → (dim_at dims i).0 ≡ 0 → has_zero (shape_of (drop i dims)) ≡ b → true ≡ b
-zero_found dims i b below h e =
-    sym (no_entry (dim_at dims i).0 (shape_of (drop (suc i) dims)) h) ∙ sym (ap (λ ds. has_zero (shape_of ds)) (drop-cons dims i (0, pos 0, pos 0) below)) ∙ e

@@ -1,6 +1,6 @@
 -- Views of bytes in a shape, as the code keeps them.
 use Rattle.std.proofs.Common.{◌≡◌, ℕ, ◌*◌, ◌≤◌, ◌^◌, true, List, length, sym, ◌∙◌, ap, subst, arith, get_or, All}
-use Rattle.std.specs.Prelude.{codes, Result, IfOk}
+use Rattle.std.specs.Prelude.{Result, IfOk}
 use Rattle.std.specs.List.{range_with_len}
 use Rattle.std.proofs.lemmas.List.FromFn.{length-range_with_len}
 use Rattle.pybuf_lemmas.proofs.Results.{if_ok_follows}
@@ -16,7 +16,6 @@ use Rattle.pybuf_desc.specs.Descriptor.{Descriptor}
 use Rattle.pybuf_desc.specs.Places.{Stands, layout_at}
 use Rattle.pybuf_desc.specs.Valid.{IsValid, IsPlaced, IsPlaceable}
 use Rattle.pybuf_desc.specs.Laws.{DescriptorsStandForOneView, ValidWhereItemsLieInside, ShapedCastsStayInside}
-use Rattle.pybuf_nd_lines.specs.Selections.{bytes_in_shape}
 
 -- ---- all bytes as one view
 
@@ -25,9 +24,6 @@ contiguous_whole n view is = ap is_contiguous_layout is ∙ whole_is_contiguous 
 
 shape_bytes : (n p : ℕ) → n ≡ p → length (range_with_len 0 n) * 1 ≡ p * 1
 shape_bytes n p whole = let long = length-range_with_len 0 n in omega (arith, long, whole)
-
-pub view_in_shape : (n : ℕ) (shape : List ℕ) (whole : Layout) → n ≡ product shape → whole ≡ bytes_layout n true → cast_to whole (codes "B") 1 shape ≡ bytes_in_shape shape
-view_in_shape n shape whole fits is = ap (λ (view : Layout). cast_to view (codes "B") 1 shape) (is ∙ ap (λ m. bytes_layout m true) fits)
 
 shape_is_inside : ShapedCastsStayInside → (n : ℕ) (shape text : List ℕ) (whole : Layout) → n ≡ product shape → whole ≡ bytes_layout n true → LiesInside n (cast_to whole text 1 shape)
 shape_is_inside stay n shape text whole fits is =

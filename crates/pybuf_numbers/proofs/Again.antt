@@ -109,10 +109,6 @@ swap_is c bytes new s k size count long small is =
     ∙ (ap (λ xs. map (number_in c) (first_chunks (size_of c) n xs)) turned
     ∙ turned_pieces c n bytes (drop (s * k) bytes) (mul-div-le (length bytes) (size_of c)) (subst (All (λ b. b < 256)) turned (all_bytes new small)))
 
-none_left : {X : Type 0} (k : ℕ) → drop {A = X} k [] ≡ []
-none_left zero = refl
-none_left (suc k) = refl
-
 turned_none : ℕ → List ℕ
 turned_none k = flat_map reverse (first_chunks 1 k [])
 

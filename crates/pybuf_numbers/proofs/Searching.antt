@@ -1,5 +1,5 @@
 -- The first place of a list at which a test passes.
-use Rattle.std.proofs.Common.{◌≡◌, ℕ, zero, suc, ◌+◌, ◌<◌, List, [], ◌∷◌, length, Bool, true, false, refl, ap, ◌∙◌, arith, slice_get, Some, sym, below_more}
+use Rattle.std.proofs.Common.{◌≡◌, ℕ, zero, suc, ◌+◌, ◌<◌, List, [], ◌∷◌, length, Bool, true, false, refl, ap, ◌∙◌, arith, slice_get, Some}
 use Rattle.std.specs.Prelude.{None}
 use Rattle.std.specs.List.{position, position_or_len}
 use Rattle.std.proofs.lemmas.Bool.{lt-ltb, le-ltb}
@@ -30,6 +30,3 @@ position_found p xs i x passed is passes =
 
 pub position_none : {X : Type 0} (p : X → Bool) (xs : List X) → Passed p xs (length xs) → position p xs ≡ None
 position_none p xs passed = let at : position_or_len p xs ≡ length xs = none_there p xs passed in rw at (rw (le-ltb (length xs) (length xs) (omega arith)) refl)
-
-pub passed_more : {X : Type 0} (p : X → Bool) (xs : List X) (n : ℕ) (x : X) → Passed p xs n → slice_get xs n ≡ Some x → p x ≡ false → Passed p xs (n + 1)
-passed_more {X} p xs n x passed is fails = λ k y below at. below_more (λ (j : ℕ). (z : X) → slice_get xs j ≡ Some z → p z ≡ false) n (λ j h z there. passed j z h there) (λ z there. let same : x ≡ z = cc in ap p (sym same) ∙ fails) k below y at

@@ -1,7 +1,7 @@
 -- The sizes of codes.
-use Rattle.std.proofs.Common.{◌≡◌, ℕ, ◌*◌, ◌+◌, ◌/◌, ◌%◌, ◌<◌, ◌≤◌, refl, arith, ap, ◌∙◌, ◌⊎◌, inl, inr}
+use Rattle.std.proofs.Common.{◌≡◌, ℕ, ◌*◌, ◌/◌, ◌%◌, ◌<◌, refl, arith, ap, ◌∙◌, ◌⊎◌, inl, inr}
 use Rattle.std.specs.Prelude.{IsTrue, true, ◌==◌}
-use Rattle.std.proofs.Math.Nat.{mul-div_cancel_left, mul-mod_right, div-add-mod, mul-suc, mul-le-mul_left, mul-div-le}
+use Rattle.std.proofs.Math.Nat.{mul-div_cancel_left, mul-mod_right, div-add-mod}
 use Rattle.std.proofs.lemmas.Bool.Decides.{nat_tests}
 use Rattle.pybuf_struct.specs.Digits.{is_width}
 use Rattle.pybuf_numbers.specs.declared.codes.ArrayCode.{ArrayCode}
@@ -41,10 +41,6 @@ whole_from_length s k n same = let none : n % s ≡ 0 = ap (λ m. m % s) same �
 
 pub length_from_whole : (s n : ℕ) → (n % s == 0) ≡ true → n ≡ s * (n / s)
 length_from_whole s n whole = let none : n % s ≡ 0 = grind (arith, nat_tests) in omega (arith, div-add-mod n s)
-
--- What lies at a place below the count lies within the length.
-pub place_within : (s place n : ℕ) → place < n / s → s * place + s ≤ n
-place_within s place n below = omega (arith, mul-suc s place, mul-le-mul_left s below, mul-div-le n s)
 
 pub sizes : (c : ArrayCode) → (size_of c ≡ 1) ⊎ ((size_of c ≡ 2) ⊎ ((size_of c ≡ 4) ⊎ (size_of c ≡ 8)))
 sizes code.SByte = inl refl

@@ -1,5 +1,5 @@
 -- Pieces that are reversed, one after the other.
-use Rattle.std.proofs.Common.{◌≡◌, ℕ, zero, suc, ◌+◌, ◌*◌, ◌≤◌, List, [], ◌++◌, length, take, drop, refl, sym, ap, ◌∙◌, arith, length-append, length-drop, append_assoc, mul-zero}
+use Rattle.std.proofs.Common.{◌≡◌, ℕ, zero, suc, ◌+◌, ◌*◌, ◌≤◌, List, [], ◌++◌, length, take, drop, sym, ap, ◌∙◌, arith, length-append, length-drop, append_assoc, mul-zero}
 use Rattle.std.specs.Prelude.{reverse}
 use Rattle.std.specs.List.{flat_map}
 use Rattle.std.specs.Simd.{first_chunks}
@@ -7,9 +7,6 @@ use Rattle.std.proofs.Math.Nat.{mul-suc}
 use Rattle.std.proofs.lemmas.List.{take_at, drop_at, drop-drop, length-reverse, length-take-le, append-nil}
 use Rattle.std.proofs.lemmas.List.Concat.{flat_map-append}
 use Rattle.pybuf_numbers.proofs.Pieces.{pieces_split}
-
-turned : ℕ → ℕ → List ℕ → List ℕ
-turned s k xs = flat_map reverse (first_chunks s k xs)
 
 length_turned : (s k : ℕ) (xs : List ℕ) → s * k ≤ length xs → length (flat_map reverse (first_chunks s k xs)) ≡ s * k
 length_turned s zero xs inside = sym (mul-zero s)
@@ -36,6 +33,3 @@ turned_more s k at n xs ys piece is inside start long turn =
     ∙ (ap (λ zs. front ++ (reverse (take s rest) ++ zs)) after
     ∙ (sym (append_assoc front (reverse (take s rest)) (drop (s * (k + 1)) xs))
     ∙ ap (λ zs. zs ++ drop (s * (k + 1)) xs) (ap (λ zs. front ++ zs) (sym (append-nil (reverse (take s rest)))) ∙ sym more))))
-
-pub none_turned : (s : ℕ) (xs : List ℕ) → xs ≡ flat_map reverse (first_chunks s 0 xs) ++ drop (s * 0) xs
-none_turned s xs = let none : s * 0 ≡ 0 = mul-zero s in rw none refl

@@ -1,12 +1,12 @@
 -- What lines ask for, after one more line.
 use Rattle.std.proofs.Common.{◌≡◌, ℕ, ◌+◌, List, [], ◌∷◌, ◌++◌, length, refl, sym, ◌∙◌, ap, arith}
-use Rattle.std.specs.Prelude.{Result, Ok, Err, Some, None}
-use Rattle.std.proofs.lemmas.List.{append_assoc, append-nil}
+use Rattle.std.specs.Prelude.{Result, Ok, Err, Some}
+use Rattle.std.proofs.lemmas.List.{append_assoc}
 use Rattle.pybuf_command.specs.declared.commands.LocalCommand.{LocalCommand}
 use Rattle.pybuf_sessions.specs.declared.asks.Ask.{Ask}
 use Rattle.pybuf_sessions.specs.Asks.{ask_in}
 use Rattle.pybuf_sessions.specs.Scripts.{scripts_of, added}
-use Rattle.pybuf_sessions.specs.Sessions.{ask_before, asks_from, scripts_for}
+use Rattle.pybuf_sessions.specs.Sessions.{ask_before, asks_from}
 use Rattle.pybuf_sessions.proofs.Growing.{one_ask_more}
 
 -- what lines asked for, in front of what the rest asks for
@@ -18,23 +18,11 @@ onto_before : (asks : List Ask) (n : ℕ) (a : Ask) (rest : Result (List Ask) �
 onto_before asks n a (Ok rest) = ap Ok (sym (append_assoc asks (a ∷ []) rest))
 onto_before asks n a (Err m) = refl
 
-onto_nothing : (rest : Result (List Ask) ℕ) → rest ≡ onto [] rest
-onto_nothing (Ok rest) = refl
-onto_nothing (Err n) = refl
-
 -- The lines before a number ask for so much, and these are the scripts.
 pub record AskedSoFar (all : Result (List Ask) ℕ) (scripts : List (List LocalCommand)) (n : ℕ) (left : List (List ℕ)) : Type 0 where
   pub asks : List Ask
   pub kept : scripts ≡ scripts_of asks
   pub whole : all ≡ onto asks (asks_from n left)
-
-pub nothing_asked : (all : Result (List Ask) ℕ) (scripts : List (List LocalCommand)) (n : ℕ) (left : List (List ℕ)) →
-    all ≡ asks_from n left → scripts ≡ [] ∷ [] → AskedSoFar all scripts n left
-nothing_asked all scripts n left e s = record {
-  asks = [];
-  kept = s;
-  whole = e ∙ onto_nothing (asks_from n left);
-}
 
 pub one_asked : (all : Result (List Ask) ℕ) (scripts more : List (List LocalCommand)) (n n2 : ℕ) (left after : List (List ℕ)) (line : List ℕ) (a : Ask) →
     AskedSoFar all scripts n left → left ≡ line ∷ after → ask_in line ≡ Some a → more ≡ added a.session a.command scripts → n2 ≡ n + 1 →
@@ -48,18 +36,6 @@ one_asked all scripts more n n2 left after line a far cut asks grown next = reco
       ∙ (ap (λ x. onto far.asks (ask_before n x (asks_from (n + 1) after))) asks
       ∙ (onto_before far.asks n a (asks_from (n + 1) after) ∙ ap (λ k. onto (far.asks ++ a ∷ []) (asks_from k after)) (sym next))));
 }
-
-pub none_asked : (all : Result (List Ask) ℕ) (scripts : List (List LocalCommand)) (n : ℕ) (left after : List (List ℕ)) (line : List ℕ) →
-    AskedSoFar all scripts n left → left ≡ line ∷ after → ask_in line ≡ None → scripts_for all ≡ Err n
-none_asked all scripts n left after line far cut none =
-    ap scripts_for
-    (far.whole ∙ (ap (λ l. onto far.asks (asks_from n l)) cut ∙ ap (λ x. onto far.asks (ask_before n x (asks_from (n + 1) after))) none))
-
-pub all_asked : (all : Result (List Ask) ℕ) (scripts : List (List LocalCommand)) (n : ℕ) (left : List (List ℕ)) →
-    AskedSoFar all scripts n left → left ≡ [] → scripts_for all ≡ Ok scripts
-all_asked all scripts n left far none =
-    ap scripts_for (far.whole ∙ ap (λ l. onto far.asks (asks_from n l)) none)
-    ∙ (ap (λ asks. Ok (scripts_of asks)) (append-nil far.asks) ∙ ap Ok (sym far.kept))
 
 -- ---- numbers of lines
 

@@ -2,13 +2,13 @@
 use Rattle.std.proofs.Common.{◌≡◌, ℕ, ◌+◌, ◌-◌, ◌<◌, ◌≤◌, Bool, true, false, not, cond, ◌==◌, ◌&&◌, ◌||◌, List, [], ◌∷◌, ◌++◌, length, take, drop, get_or, refl, sym, ◌∙◌, ap, arith, tests, length-append}
 use Rattle.std.specs.Prelude.{Option, Some, None}
 use Rattle.std.specs.List.{list_any, onto_first}
-use Rattle.std.proofs.lemmas.List.{append_assoc, append-nil, drop_more, drop_all}
+use Rattle.std.proofs.lemmas.List.{append_assoc, append-nil, drop_more}
 use Rattle.pybuf_lemmas.proofs.Lists.{part_grows_by_one}
 use Rattle.pybuf_command.specs.declared.kinds.Subject.{Subject}
 use Rattle.pybuf_command.specs.declared.loans.Loan.{Loan}
 use Rattle.pybuf_sessions.specs.Names.{name_in}
 use Rattle.pybuf_sessions.specs.Pieces.{is_mark, pieces_from, is_handle, text_at, loan_at, next_after, handled_from, loans_from}
-use Rattle.pybuf_sessions.specs.Putting.{IsPut, ArePut}
+use Rattle.pybuf_sessions.specs.Putting.{IsPut}
 
 -- ---- pieces, byte by byte
 
@@ -83,13 +83,6 @@ mark_left text start i quoted within here q m =
     ∙ ap (λ rest. begun ∷ (get_or text i 0 ∷ []) ∷ rest)
     (sym (ap (λ n. onto_begun (take n (drop (i + 1) text)) (pieces_from quoted (drop (i + 1) text))) none ∙ onto_none quoted (drop (i + 1) text)))))
 
--- Behind the last byte, only the piece that is begun is left.
-pub end_left : (text : List ℕ) (start i : ℕ) (quoted : Bool) → length text ≤ i →
-    left_from text start i quoted ≡ take (i - start) (drop start text) ∷ []
-end_left text start i quoted done =
-    let begun = take (i - start) (drop start text) in
-    ap (λ rest. onto_begun begun (pieces_from quoted rest)) (drop_all i text done) ∙ ap (λ first. first ∷ []) (append-nil begun)
-
 pub left_same : (text : List ℕ) (start start2 i : ℕ) (quoted quoted2 : Bool) → start2 ≡ start → quoted2 ≡ quoted →
     left_from text start i quoted ≡ left_from text start2 i quoted2
 left_same text start start2 i quoted quoted2 e1 e2 = cc
@@ -101,13 +94,6 @@ pub record PutSoFar (all : List (List ℕ)) (old : List ℕ) (lent : List (ℕ �
   pub named : list_any is_handle all ≡ list_any is_handle rest
   pub text : old ++ handled_from (length lent) all ≡ new ++ handled_from (length lent_now) rest
   pub loans : lent ++ loans_from (length lent) all ≡ lent_now ++ loans_from (length lent_now) rest
-
-pub nothing_put : (all rest : List (List ℕ)) (old : List ℕ) (lent : List (ℕ × Loan)) → all ≡ rest → PutSoFar all old lent old lent rest
-nothing_put all rest old lent e = record {
-  named = ap (list_any is_handle) e;
-  text = ap (λ r. old ++ handled_from (length lent) r) e;
-  loans = ap (λ r. lent ++ loans_from (length lent) r) e;
-}
 
 pub same_put : (all rest rest' : List (List ℕ)) (old new new' : List ℕ) (lent lent_now lent_now' : List (ℕ × Loan)) → new' ≡ new → lent_now' ≡ lent_now → rest ≡ rest' →
     PutSoFar all old lent new lent_now rest → PutSoFar all old lent new' lent_now' rest'
@@ -156,15 +142,3 @@ byte_put all rest b old new new2 lent lent_now p e =
       text = e ∙ ap (λ name. new ++ text_at (length lent_now) name (b ∷ [])) (sym (byte_no_name b));
       loans = sym (ap (λ name. lent_now ++ loan_at (length lent_now) name) (byte_no_name b) ∙ append-nil lent_now);
     })
-
-pub piece_refused : (all rest : List (List ℕ)) (piece old new : List ℕ) (lent lent_now : List (ℕ × Loan)) →
-    PutSoFar all old lent new lent_now (piece ∷ rest) → is_handle piece ≡ true → list_any is_handle all ≡ true
-piece_refused all rest piece old new lent lent_now p h = p.named ∙ ap (λ t. t || list_any is_handle rest) h
-
-pub all_put : (all : List (List ℕ)) (old new : List ℕ) (lent lent_now : List (ℕ × Loan)) →
-    PutSoFar all old lent new lent_now [] → ArePut all old lent new lent_now
-all_put all old new lent lent_now p = record {
-  named = p.named;
-  text = sym (p.text ∙ append-nil new);
-  loans = sym (p.loans ∙ append-nil lent_now);
-}

@@ -1,32 +1,17 @@
 -- Histories, and the sessions that agree with them or don't.
-use Rattle.std.proofs.Common.{◌≡◌, ◌⊎◌, ℕ, ◌<◌, ◌≤◌, List, length, get_or, None, slice_get, ap, ap₂, sym, ◌∙◌, subst, inl, inr}
+use Rattle.std.proofs.Common.{◌≡◌, ◌⊎◌, ℕ, ◌<◌, ◌≤◌, List, length, get_or, None, slice_get, sym, ◌∙◌, subst, inl, inr}
 use Rattle.std.specs.List.{All}
 use Rattle.std.proofs.lemmas.Bool.{cases_lt}
 use Rattle.std.proofs.lemmas.Option.{none-some, slice_get-get_or, slice_get_past}
 use Rattle.pybuf_command.specs.declared.kinds.ExporterKind.{ExporterKind}
-use Rattle.pybuf_state.specs.Exporter.{Exporter, new_exporter}
+use Rattle.pybuf_state.specs.Exporter.{Exporter}
 use Rattle.pybuf_share.specs.declared.entries.Entry.{Entry}
 use Rattle.pybuf_share.specs.declared.joined.FinishFault.{FinishFault}
 use Rattle.pybuf_share.specs.declared.joined.FinishFault.TheVariants as fault
-use Rattle.pybuf_share.specs.declared.joined.Joined.{Joined}
-use Rattle.pybuf_share.specs.History.{Log, Opening, IsKept, IsLegal, after_entries, replies_along}
+use Rattle.pybuf_share.specs.History.{Log, Opening, IsKept}
 use Rattle.pybuf_share.specs.Sessions.{Asker}
-use Rattle.pybuf_share.specs.Finishing.{AreAll, Agree, IsJoined, IsOwn, ArePlain, AreTheirs, Refuses, RefusesAtLast, Stands, receipts_of, calls_of}
+use Rattle.pybuf_share.specs.Finishing.{AreAll, Agree, IsOwn, ArePlain, AreTheirs, Refuses, RefusesAtLast, calls_of}
 use Rattle.pybuf_share.proofs.Theirs.{theirs}
-
--- what is kept under the lock, as it is given out
-pub joined_is : (log : Log) (k : ExporterKind) (bytes : List ℕ) (ss : List Asker) (state : Exporter) (total : ℕ) (joined : Joined) → Agree log k bytes ss → IsKept log state total
-    → joined.kind ≡ k → joined.opening ≡ bytes → joined.entries ≡ log.entries → joined.state.exporter ≡ state → IsJoined k bytes ss joined
-joined_is log k bytes ss state total joined agree kept kind opening entries state_is =
-    let start : new_exporter log.kind log.opening ≡ new_exporter k bytes = ap₂ new_exporter (sym agree.begins.same_kind) (sym agree.begins.same_bytes) in
-    record {
-      same_kind = kind;
-      same_bytes = opening;
-      legal = subst (λ (xs : List Entry). IsLegal k bytes xs) (sym entries) (kept.legal ∙ ap (λ (e : Exporter). replies_along e log.entries) start);
-      replays = state_is ∙ kept.replays ∙ ap (λ (e : Exporter). after_entries e log.entries) start ∙ ap (λ (xs : List Entry). after_entries (new_exporter k bytes) xs) (sym entries);
-      rise = agree.rise;
-      stand = subst (λ (xs : List Entry). All (Stands xs) (receipts_of ss)) (sym entries) agree.stand;
-    }
 
 pub theirs_are : (log : Log) (k : ExporterKind) (bytes : List ℕ) (ss : List Asker) (state : Exporter) (total parts : ℕ) → Agree log k bytes ss → IsKept log state total → AreAll parts ss → All IsOwn ss
     → total ≡ calls_of ss → ArePlain ss → AreTheirs ss log.entries

@@ -1,7 +1,7 @@
 -- Views that are found by their number.
 use Rattle.std.proofs.Common.{◌≡◌, ℕ, zero, suc, List, [], ◌∷◌, ◌++◌, Bool, true, false, sym, ◌∙◌, refl, subst}
-use Rattle.std.specs.Prelude.{set, Some, None, Result, Ok, Err, slice_get}
-use Rattle.pybuf_state.specs.Facts.{view_given, no_view_given}
+use Rattle.std.specs.Prelude.{set, Some, Result, Ok, Err, slice_get}
+use Rattle.pybuf_state.specs.Facts.{view_given}
 use Rattle.pybuf_value.specs.declared.faults.Fault.{Fault}
 use Rattle.pybuf_value.specs.declared.faults.Fault.TheVariants as fault
 use Rattle.pybuf_value.specs.Refusing.{◌>>=◌, unless}
@@ -10,9 +10,6 @@ use Rattle.pybuf_state.specs.Exporter.{Exporter, View, view_at, live_layout}
 
 pub view_at_given : (e : Exporter) (k : ℕ) (v : View) → view_at e k ≡ Ok v → slice_get e.views k ≡ Some v
 view_at_given e k v found = view_given (slice_get e.views k) v found
-
-pub view_at_none : (e : Exporter) (k : ℕ) (f : Fault) → view_at e k ≡ Err f → slice_get e.views k ≡ None
-view_at_none e k f refused = no_view_given (slice_get e.views k) f refused
 
 -- the view whose layout is a live layout
 pub record IsLiveView (e : Exporter) (k : ℕ) (layout : Layout) (v : View) : Type 0 where

@@ -9,7 +9,6 @@ pub mod Walks
 pub mod CursorSteps
 pub mod Fields
 pub mod Packs
-pub mod NumbersAgain
 pub mod FieldsAgain
 pub mod Places
 pub mod Whole

@@ -151,10 +151,3 @@ writes_more o pairs size all values before room after left rest f v i bytes writ
       counts = omega (arith, writes.counts, ap length left_is);
       sound = sound.1;
     }
-
-pub writes_all : (o : Endianness) (pairs : List (ℕ × Snap)) (size : ℕ) (all : List Field) (values : List Scalar) (before room : List ℕ) (left : List Field) (i : ℕ) → Writes o pairs size all values before room left i
-    → length values ≤ i → room_with_contents all (contents_of o pairs all values) before ≡ Ok room
-unfolding contents_of
-writes_all o pairs size all values before room [] i writes le =
-    sym writes.same ∙ ap (λ (vs : List Scalar). room_with_contents [] (contents_of o pairs [] vs) room) (drop_all i values le)
-writes_all o pairs size all values before room (f ∷ left) i writes le = absurd (omega (arith, writes.counts))

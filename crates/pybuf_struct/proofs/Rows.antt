@@ -1,6 +1,5 @@
 -- Values are read one after another.
 use Rattle.std.proofs.Common.{◌≡◌, ℕ, suc, ◌+◌, ◌-◌, ◌*◌, ◌<◌, ◌≤◌, List, [], ◌∷◌, ◌++◌, length, take, drop, map, sym, ap, ◌∙◌, append_assoc, arith}
-use Rattle.std.proofs.lemmas.List.{append-nil}
 use Rattle.pybuf_value.specs.declared.values.Scalar.{Scalar}
 use Rattle.pybuf_struct.specs.declared.table.Endianness.{Endianness}
 use Rattle.pybuf_struct.specs.declared.table.FormatType.{FormatType}
@@ -13,11 +12,6 @@ pub record Reads (o : Endianness) (bytes : List ℕ) (code : FormatType) (size o
   pub within : at + (count - done) * size ≤ length bytes
   pub there : at ≡ offset + done * size
   pub some_left : done ≤ count
-
-pub reads_nothing : (o : Endianness) (bytes : List ℕ) (code : FormatType) (size offset count : ℕ) (before : List Scalar) → offset + count * size ≤ length bytes → Reads o bytes code size offset count offset 0 before before
-reads_nothing o bytes code size offset count before within =
-    let all : count - 0 ≡ count = omega arith in
-    record { same = ap (λ (n : ℕ). before ++ map (value_in o bytes) (fields_in_row code size offset n)) all; within = rw all within; there = omega arith; some_left = omega arith }
 
 unit_within : (o : Endianness) (bytes : List ℕ) (code : FormatType) (size offset count at done : ℕ) (before out : List Scalar) → Reads o bytes code size offset count at done before out → done < count
     → at + size + (count - (done + 1)) * size ≤ length bytes
@@ -38,17 +32,8 @@ reads_more o bytes code size offset count at done before out v reads lt v_is =
       some_left = omega arith;
     }
 
-pub reads_all : (o : Endianness) (bytes : List ℕ) (code : FormatType) (size offset count at done : ℕ) (before out : List Scalar) → Reads o bytes code size offset count at done before out → count ≤ done
-    → out ≡ before ++ map (value_in o bytes) (fields_in_row code size offset count)
-reads_all o bytes code size offset count at done before out reads le =
-    let left : count - done ≡ 0 = omega arith in
-    sym (append-nil out) ∙ ap (λ (n : ℕ). out ++ map (value_in o bytes) (fields_in_row code size at n)) (sym left) ∙ reads.same
-
 -- where the fields of a row end
 pub reads_end : (o : Endianness) (bytes : List ℕ) (code : FormatType) (size offset count at done : ℕ) (before out : List Scalar) → Reads o bytes code size offset count at done before out → count ≤ done → at ≡ offset + count * size
 reads_end o bytes code size offset count at done before out reads le =
     let all : done ≡ count = omega (arith, reads.some_left) in
     reads.there ∙ ap (λ (n : ℕ). offset + n * size) all
-
-pub unit_fits : (o : Endianness) (bytes : List ℕ) (code : FormatType) (size offset count at done : ℕ) (before out : List Scalar) → Reads o bytes code size offset count at done before out → done < count → at + size ≤ length bytes
-unit_fits o bytes code size offset count at done before out reads lt = omega (arith, unit_within o bytes code size offset count at done before out reads lt)

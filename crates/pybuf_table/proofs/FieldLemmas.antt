@@ -1,7 +1,6 @@
 -- The fields of one code, by their numbers.
 use Rattle.std.proofs.Common.{◌≡◌, ℕ, zero, suc, ◌+◌, ◌-◌, ◌*◌, ◌<◌, ◌≤◌, List, [], ◌∷◌, ◌++◌, length, get_or, drop, refl, sym, ap, ◌∙◌, arith}
-use Rattle.std.specs.Prelude.{Some, None, Option, slice_get}
-use Rattle.std.proofs.lemmas.List.{drop_all}
+use Rattle.std.specs.Prelude.{Some, Option, slice_get}
 use Rattle.pybuf_struct.specs.Facts.{length-fields_of_code, next_is}
 use Rattle.pybuf_struct.specs.declared.table.FormatType.{FormatType}
 use Rattle.pybuf_struct.specs.declared.table.FormatType.TheVariants as code
@@ -59,9 +58,6 @@ found_later o at i k codes c less is there = rw (next_is codes i c less is) (fie
 pub more_inside : (o : Endianness) (at i size : ℕ) (codes : List Code) (c : Code) → i < length codes → c ≡ get_or codes i c → at + extent o (drop i codes) ≤ size
     → at + (c.pre_padding + span o c + extent o (drop (i + 1) codes)) ≤ size
 more_inside o at i size codes c less is within = rw (next_is codes i c less is) at within
-
-pub found_none : (o : Endianness) (at i k : ℕ) (codes : List Code) → length codes ≤ i → slice_get (fields_from o at (drop i codes)) k ≡ None
-found_none o at i k codes all = rw (drop_all i codes all) refl
 
 pub found_at : (o : Endianness) (at i k count pad : ℕ) (codes : List Code) (c : Code) (place : Field) (wanted : Option Field) → i < length codes → c ≡ get_or codes i c → count ≡ field_count c → k < count → pad ≡ c.pre_padding
     → slice_get (fields_of_code c.code (size_of o c.code) (at + pad) c.repeat) k ≡ Some place → slice_get (fields_from o at (drop i codes)) k ≡ wanted → Some place ≡ wanted

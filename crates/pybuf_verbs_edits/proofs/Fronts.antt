@@ -115,9 +115,6 @@ first_stride n falls x s k some moves first =
 pub first_alone : (n p : ℕ) → AreFirst n (p ∷ []) → (p ≡ 0) × (n ≡ 1)
 first_alone n p first = (first_low n false p 1 1 (omega arith) first, sym (first_count n (p ∷ []) first))
 
-pub zero_is_first : (p : ℕ) → p ≡ 0 → AreFirst 1 (p ∷ [])
-zero_is_first p none = inl (ap (λ (q : ℕ). q ∷ []) none)
-
 -- ---- what is left without the first places
 
 kept_if : {X : Type 0} (b : Bool) (place : ℕ) (x : X) (items : List X) (xs : List ℕ) → has xs place ≡ b → off_from place (x ∷ items) xs ≡ (if b then off_from (suc place) items xs else x ∷ off_from (suc place) items xs)

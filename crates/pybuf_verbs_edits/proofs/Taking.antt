@@ -1,5 +1,5 @@
 -- The checks of its effect tell what an edit takes out at the front.
-use Rattle.std.proofs.Common.{◌≡◌, ◌≢◌, ℕ, zero, suc, ◌+◌, ◌-◌, min, ◌<◌, ◌≤◌, ℤ, pos, negsuc, List, [], ◌∷◌, length, take, drop, true, false, Bool, sym, subst, ap, ◌∙◌, refl, arith, length-take, length-drop, length-append}
+use Rattle.std.proofs.Common.{◌≡◌, ◌≢◌, ℕ, zero, suc, ◌+◌, ◌-◌, ◌<◌, ◌≤◌, ℤ, pos, negsuc, List, [], ◌∷◌, length, true, false, Bool, sym, subst, ap, ◌∙◌, refl, arith}
 use Rattle.std.specs.Prelude.{nat_abs, Result, Ok, Err}
 use Rattle.pybuf_index.specs.Facts.{how_many_one, run_length}
 use Rattle.pybuf_value.specs.declared.faults.Fault.{Fault}
@@ -70,13 +70,6 @@ sliced_first len (Err f) parts n is first = absurd (cc)
 -- If just the first places go, the rest is left.
 pub front_gone : (bytes places : List ℕ) (n : ℕ) → AreFirst n places → elements_off bytes places ≡ replaced_range bytes 0 n []
 front_gone bytes places n first = without_first n bytes places first
-
--- The result is as long as what stays.
-pub shorter : (bytes : List ℕ) (start end : ℕ) → start ≤ end → end ≤ length bytes → length (replaced_range bytes start end []) ≡ start + (length bytes - end)
-shorter bytes start end ordered inside =
-    length-append (take start bytes) (drop end bytes)
-    ∙ ap (λ (k : ℕ). k + length (drop end bytes)) (length-take start bytes ∙ (let most : min start (length bytes) ≡ start = omega (arith, ordered, inside) in most))
-    ∙ ap (λ (k : ℕ). start + k) (length-drop end bytes)
 
 -- ---- spans whose indices are the first places
 

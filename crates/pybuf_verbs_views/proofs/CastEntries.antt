@@ -1,5 +1,5 @@
 -- The entries of a shape, read one after the other.
-use Rattle.std.proofs.Common.{◌≡◌, ℕ, suc, ◌+◌, ◌*◌, ◌<◌, ◌≤◌, List, [], ◌∷◌, ◌++◌, length, get_or, drop, drop-cons, ap, ap₂, sym, ◌∙◌, refl, arith, append_assoc, append-nil, drop_of_length-le}
+use Rattle.std.proofs.Common.{◌≡◌, ℕ, suc, ◌+◌, ◌*◌, ◌<◌, List, [], ◌∷◌, ◌++◌, length, get_or, drop, drop-cons, ap, ap₂, sym, ◌∙◌, refl, arith, append_assoc}
 use Rattle.std.specs.Prelude.{Result, Ok, Err}
 use Rattle.pybuf_desc.specs.Facts.{product-push}
 use Rattle.pybuf_value.specs.declared.faults.Fault.{Fault}
@@ -29,15 +29,6 @@ entry_next wanted made more size entry i parts part d below here so_far given pu
     so_far ∙ ap (joined made) (entries_at size i parts part d below here ∙ ap (λ (r : Result ℕ Fault). r >>= λ x. entries_of (size * x) (drop (i + 1) parts) >>= λ es. Ok (x ∷ es)) (sym given))
     ∙ join_next made entry (entries_of (size * entry) (drop (i + 1) parts))
     ∙ ap (λ (xs : List ℕ). joined xs (entries_of (size * entry) (drop (i + 1) parts))) (sym pushed)
-
-pub entry_refused : (wanted : Result (List ℕ) Fault) (made : List ℕ) (size i : ℕ) (parts : List Scalar) (part d : Scalar) (f : Fault) → i < length parts → part ≡ get_or parts i d
-    → wanted ≡ joined made (entries_of size (drop i parts)) → Err f ≡ entry_of size part → wanted ≡ Err f
-entry_refused wanted made size i parts part d f below here so_far refused =
-    so_far ∙ ap (joined made) (entries_at size i parts part d below here ∙ ap (λ (r : Result ℕ Fault). r >>= λ x. entries_of (size * x) (drop (i + 1) parts) >>= λ es. Ok (x ∷ es)) (sym refused))
-
-pub entries_done : (wanted : Result (List ℕ) Fault) (made : List ℕ) (size i : ℕ) (parts : List Scalar) → length parts ≤ i → wanted ≡ joined made (entries_of size (drop i parts)) → wanted ≡ Ok made
-entries_done wanted made size i parts past so_far =
-    so_far ∙ ap (λ (ps : List Scalar). joined made (entries_of size ps)) (drop_of_length-le parts past) ∙ ap (λ (xs : List ℕ). Ok xs) (append-nil made)
 
 pub product_next : (made more : List ℕ) (first size entry : ℕ) → size ≡ first * product made → more ≡ made ++ entry ∷ [] → size * entry ≡ first * product more
 product_next made more first size entry so_far pushed =

@@ -37,7 +37,7 @@ use Rattle.pybuf_desc.specs.Apart.{AreApart}
 use Rattle.pybuf_verbs_writes.specs.Laws.{AreOutside, IsAssigned, AssignmentsAreByValue, ContentsHoldTheItems}
 use Rattle.pybuf_verbs_writes.proofs.Bytes.{dropped, between}
 use Rattle.pybuf_verbs_writes.proofs.LaidLengths.{piece_short, rest_inside, length-laid}
-use Rattle.pybuf_verbs_writes.proofs.Assigning.{IsOfForm, of_form, bytes_of_form, content_fits}
+use Rattle.pybuf_verbs_writes.proofs.Assigning.{of_form, bytes_of_form, content_fits}
 use Rattle.pybuf_verbs_writes.proofs.AssignSafe.{IsAssignTarget, target_is, target_inside}
 
 -- ---- lists
@@ -140,11 +140,6 @@ item_of_content bytes size (t ∷ starts) (suc k) inside below =
     ∙ item_of_content bytes size starts k (All-tail (λ t. t + size ≤ length bytes) t starts inside) (let fewer : k < length starts = omega (arith, below) in fewer)
 
 -- ---- the law
-
-pub record IsFilled (target : Layout) (source : Snap) : Type 0 where
-  pub live : source.released ≡ false
-  pub form : IsOfForm target source.itemsize source.shape
-  pub long : length source.content ≡ target.itemsize * length target.starts
 
 refused_not : {B : Type 0} (b : Bool) (f : Fault) (r : Result B Fault) (x : B) → (unless b f >>= λ _. r) ≡ Ok x → (b ≡ false) × (r ≡ Ok x)
 refused_not true f r x is = absurd (cc)

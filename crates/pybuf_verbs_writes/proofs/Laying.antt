@@ -20,7 +20,6 @@ use Rattle.pybuf_memoryview.specs.Laws.{ItemBytesLieInside, ItemBytesAreTheConte
 use Rattle.pybuf_verbs_writes.specs.Laid.{bytes_with, laid}
 use Rattle.pybuf_verbs_writes.specs.LaidBytes.{put_at}
 use Rattle.pybuf_verbs_writes.proofs.Bytes.{length-bytes_with}
-use Rattle.pybuf_verbs_writes.proofs.Ranges.{range_inside}
 
 -- No byte is written.
 pub bytes_with_none : (bytes : List ℕ) (place : ℕ) → bytes_with bytes place [] ≡ bytes
@@ -78,44 +77,6 @@ kept bytes place zero content inside enough =
 kept bytes place (suc size) content inside enough =
     let here : place + suc size ≤ length bytes = inside (let some : 0 < suc size = omega arith in some) in
     length-bytes_with bytes place (take (suc size) content) (let fits : place + length (take (suc size) content) ≤ length bytes = omega (arith, here, length-take-le (suc size) content enough) in fits)
-
-pub put_range : (bytes : List ℕ) (place size : ℕ) (qs content : List ℕ) → (0 < size → place + size ≤ length bytes) → size ≤ length content
-    → put_at bytes (range_with_len place size ++ qs) content ≡ put_at (bytes_with bytes place (take size content)) qs (drop size content)
-put_range bytes place zero qs content inside enough =
-    let none : take 0 content ≡ [] = grind (arith, common_steps) in
-    let all : drop 0 content ≡ content = grind (arith, common_steps) in
-    sym (ap₂ (λ (bs cs : List ℕ). put_at bs qs cs) (ap (bytes_with bytes place) none ∙ bytes_with_none bytes place) all)
-put_range bytes place (suc size) qs content inside enough = put_first bytes place (suc size) qs content (inside (let some : 0 < suc size = omega arith in some)) enough
-
--- The ranges have as many bytes as their lengths say.
-pub length_ranges : (range : Range ℕ) (ranges rest : List (Range ℕ)) → ranges ≡ range ∷ rest → length (flat_map bytes_of ranges) ≡ (range.end - range.start) + length (flat_map bytes_of rest)
-length_ranges range ranges rest same =
-    ap (λ (rs : List (Range ℕ)). length (flat_map bytes_of rs)) same
-    ∙ length-append (bytes_of range) (flat_map bytes_of rest)
-    ∙ ap (λ (n : ℕ). n + length (flat_map bytes_of rest)) (length-range_with_len range.start (range.end - range.start))
-
-drop_more : (content : List ℕ) (from size next : ℕ) → next ≡ from + size → drop size (drop from content) ≡ drop next content
-drop_more content from size next is = grind (arith, common_steps, is)
-
-pub lay_step : (bytes more content total : List ℕ) (from next : ℕ) (range : Range ℕ) (ranges rest : List (Range ℕ)) → ranges ≡ range ∷ rest → next ≡ from + (range.end - range.start)
-    → more ≡ bytes_with bytes range.start (take (range.end - range.start) (drop from content)) → from + length (flat_map bytes_of ranges) ≡ length content
-    → All (λ place. place < length bytes) (flat_map bytes_of ranges) → put_at bytes (flat_map bytes_of ranges) (drop from content) ≡ total
-    → put_at more (flat_map bytes_of rest) (drop next content) ≡ total
-lay_step bytes more content total from next range ranges rest same step copied as_many inside so_far =
-    let size : ℕ = range.end - range.start in
-    let fits : 0 < size → range.start + size ≤ length bytes = λ some. (let ends = range_inside bytes range ranges rest same (let less : range.start < range.end = omega (arith, some) in less) inside in omega (arith, some, ends)) in
-    let enough : size ≤ length (drop from content) = omega (arith, as_many, length_ranges range ranges rest same, length-drop from content) in
-    ap₂ (λ (bs cs : List ℕ). put_at bs (flat_map bytes_of rest) cs) copied (sym (drop_more content from size next step))
-    ∙ sym (put_range bytes range.start size (flat_map bytes_of rest) (drop from content) fits enough)
-    ∙ ap (λ (rs : List (Range ℕ)). put_at bytes (flat_map bytes_of rs) (drop from content)) (sym same) ∙ so_far
-
-pub more_inside : (bytes more content : List ℕ) (from : ℕ) (range : Range ℕ) (ranges rest : List (Range ℕ)) → ranges ≡ range ∷ rest
-    → more ≡ bytes_with bytes range.start (take (range.end - range.start) (drop from content)) → from + length (flat_map bytes_of ranges) ≤ length content
-    → All (λ place. place < length bytes) (flat_map bytes_of ranges) → length more ≡ length bytes
-more_inside bytes more content from range ranges rest same copied enough inside =
-    ap length copied ∙ kept bytes range.start (range.end - range.start) (drop from content)
-    (λ some. (let ends = range_inside bytes range ranges rest same (let less : range.start < range.end = omega (arith, some) in less) inside in omega (arith, some, ends)))
-    (let fits : range.end - range.start ≤ length (drop from content) = omega (arith, enough, length_ranges range ranges rest same, length-drop from content) in fits)
 
 -- ---- whole views
 

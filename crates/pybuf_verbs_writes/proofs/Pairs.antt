@@ -21,12 +21,6 @@ firsts pairs = map (λ pair. pair.0) pairs
 abbrev pub seconds : List (Range ℕ × Range ℕ) → List (Range ℕ)
 seconds pairs = map (λ pair. pair.1) pairs
 
--- what must hold of the pairs that are left
-pub record ArePaired (bytes source : List ℕ) (pairs : List (Range ℕ × Range ℕ)) : Type 0 where
-  pub inside : All (λ place. place < length bytes) (flat_map bytes_of (firsts pairs))
-  pub source_inside : All (λ place. place < length source) (flat_map bytes_of (seconds pairs))
-  pub alike : All (λ pair. pair.0.end - pair.0.start ≡ pair.1.end - pair.1.start) pairs
-
 -- a copy of one pair
 pub record IsCopy (bytes source : List ℕ) (range lender : Range ℕ) : Type 0 where
   pub inside : range.start < range.end → range.end ≤ length bytes

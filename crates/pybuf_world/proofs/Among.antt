@@ -4,7 +4,6 @@ use Rattle.std.specs.Prelude.{◌==◌, ◌&&◌, ◌||◌, IfOk, OnErr, slice_g
 use Rattle.std.specs.List.{list_all, list_any}
 use Rattle.std.specs.Option.{option_map}
 use Rattle.std.proofs.lemmas.Bool.{eqb-true, eq-eqb, ne_eqb}
-use Rattle.std.proofs.lemmas.Option.{slice_get-get_or}
 use Rattle.std.proofs.lemmas.List.Folds.{list_any_at}
 use Rattle.pybuf_lemmas.proofs.Lists.{set_to_itself, set_twice}
 use Rattle.pybuf_value.specs.declared.snaps.Snap.{Snap}
@@ -244,12 +243,6 @@ alike_among w i dest e s v = record {
 }
 
 -- ---- the step
-
-abbrev some_exporter : Exporter → Option Exporter
-some_exporter e = Some e
-
-pub at_place : (es : List Exporter) (i : ℕ) (x d : Exporter) → i < length es → x ≡ get_or es i d → slice_get es i ≡ Some x
-at_place es i x d below is = slice_get-get_or es i d below ∙ ap some_exporter (sym is)
 
 pub stepped_among : NamesAlikeDoTheSame → (w : World) (t : Target) (v : Verb) (worker dest new : Exporter) (r : LocalReply) → slice_get w.exporters t.exporter ≡ Some worker
     → estep_by worker t.subject v (named_to (record w { exporters = set w.exporters t.exporter dest }) t.exporter) ≡ (new, r)

@@ -260,9 +260,6 @@ own_compared e other lents =
 no_truth : (f : Fault) (truth : Bool) → local.Refused f ≡ local.Truth truth → ⊥
 no_truth f truth is = cc
 
-unknown_no_truth : (truth : Bool) → reply.Refused fault.UnknownName ≡ reply.Truth truth → ⊥
-unknown_no_truth truth is = cc
-
 abbrev truth_of_reply : LocalReply → Bool
 truth_of_reply (local.Truth truth) = truth
 truth_of_reply _ = false

@@ -1,8 +1,8 @@
 -- The bytes of a new exporter are those of a single handle, or no handle is read for them.
-use Rattle.std.proofs.Common.{◌≡◌, ◌≢◌, ℕ, ◌≤◌, Bool, true, false, true≢false, List, [], ◌∷◌, ◌++◌, length, ap, sym, ◌∙◌, refl, arith}
+use Rattle.std.proofs.Common.{◌≡◌, ◌≢◌, ℕ, ◌≤◌, Bool, true, false, true≢false, List, [], ◌∷◌, length, ap, sym, ◌∙◌, refl, arith}
 use Rattle.std.specs.Prelude.{◌==◌, ◌&&◌, ◌||◌, nat_lt, Option, Some, None, Result, Ok, Err, if◌then◌else◌}
 use Rattle.std.specs.List.{list_all, list_any}
-use Rattle.std.proofs.lemmas.Bool.{eq-eqb, eqb-true, le-ltb}
+use Rattle.std.proofs.lemmas.Bool.{eqb-true, le-ltb}
 use Rattle.pybuf_lemmas.proofs.Booleans.{and_false}
 use Rattle.pybuf_value.specs.declared.faults.Fault.{Fault}
 use Rattle.pybuf_value.specs.declared.faults.Fault.TheVariants as fault
@@ -11,33 +11,14 @@ use Rattle.pybuf_value.specs.declared.values.Scalar.TheVariants as scalar
 use Rattle.pybuf_value.specs.declared.values.Value.{Value}
 use Rattle.pybuf_value.specs.declared.values.Value.TheVariants as value
 use Rattle.pybuf_value.specs.Refusing.{◌>>=◌}
-use Rattle.pybuf_value.specs.Snaps.{snap_of, content_of_named}
 use Rattle.pybuf_value.specs.Texts.{text_in}
 use Rattle.pybuf_command.specs.declared.options.ByteInnerNewOptions.{ByteInnerNewOptions}
 use Rattle.pybuf_bytes.specs.Options.{bytes_of_source, text_given, bytes_by, bytes_of_options}
 use Rattle.pybuf_command.specs.declared.kinds.ExporterKind.{ExporterKind}
-use Rattle.pybuf_command.specs.Handles.{source_alone as handle_by, handle_alone, handles_in_option, handles_of_options}
+use Rattle.pybuf_command.specs.Handles.{source_alone as handle_by, handle_alone, handles_of_options}
 use Rattle.pybuf_command.specs.declared.worlds.Reply.TheVariants as reply
-use Rattle.pybuf_verbs_methods.specs.Names.{paired}
-use Rattle.pybuf_world.specs.World.{World, snap_for, pairs_of, bytes_of_new, world_with_bytes, are_given}
+use Rattle.pybuf_world.specs.World.{World, bytes_of_new, world_with_bytes, are_given}
 use Rattle.pybuf_world.specs.Laws.{IsNewMade, NewExportersStandBehind, UnknownSourcesAreRefused}
-
--- ---- a single handle
-
-found : (h : ℕ) (o : Option Snap) → snap_of (paired h o ++ []) h ≡ o
-found h (Some snap) = ap (λ (b : Bool). if b then Some snap else None) (eq-eqb h h refl)
-found h None = refl
-
-of_one : (w : World) (s e r : Option Value) (h : ℕ) → handle_by s e r ≡ Some h
-    → bytes_of_options (pairs_of w (handles_in_option s ++ handles_in_option e ++ handles_in_option r)) s e r ≡ content_of_named (snap_for w h)
-of_one w (Some (value.One (scalar.Handle g))) None None h is =
-    let same : g ≡ h = cc in
-    ap content_of_named (found g (snap_for w g)) ∙ ap (λ (x : ℕ). content_of_named (snap_for w x)) same
-of_one w s e r h is = absurd (cc)
-
--- If a handle is the only option, its bytes are those that are read.
-pub bytes_of_one : (w : World) (options : ByteInnerNewOptions) (h : ℕ) → handle_alone options ≡ Some h → bytes_of_new w options ≡ content_of_named (snap_for w h)
-bytes_of_one w options h is = of_one w options.source options.encoding options.errors h is
 
 -- ---- no handle
 

@@ -50,9 +50,6 @@ empty_is_sound = record {
   exporters_are_named = λ i below. absurd (omega (arith, below));
 }
 
-pub empty_is_owned : AreOwners empty_world []
-empty_is_owned = record { counted = refl; first = λ i below. absurd (omega (arith, below)) }
-
 -- what must hold of an exporter
 pub record IsWell (e : Exporter) : Type 0 where
   pub sound : IsSoundExporter e

@@ -33,9 +33,6 @@ record IsKeptBySteps (Stays : Exporter → Exporter → Type 0) : Type 0 where
   same : (e : Exporter) → Stays e e
   step : (e : Exporter) (s : Subject) (v : Verb) (loans : List (ℕ × Loan)) → IsSoundExporter e → Stays e (estep e s v loans).0
 
-world_stays : (Stays : Exporter → Exporter → Type 0) → IsKeptBySteps Stays → (w : World) → EachExporterStays Stays w w
-world_stays Stays kept w i e at = (e, at, kept.same e)
-
 -- One exporter is set, and the others stay.
 one_set : (Stays : Exporter → Exporter → Type 0) → IsKeptBySteps Stays → (w : World) (j : ℕ) (old new : Exporter) → slice_get w.exporters j ≡ Some old → Stays old new
     → (i : ℕ) (e : Exporter) → ((j == i) ≡ true) × (j ≡ i) ⊎ ((j == i) ≡ false) × (j ≢ i) → slice_get w.exporters i ≡ Some e

@@ -1,11 +1,10 @@
 -- What the tables have after a command on an exporter that is there.
-use Rattle.std.proofs.Common.{◌≡◌, ℕ, List, [], ◌∷◌, ◌++◌, length, Bool, true, false, true≢false, set, ap, ap₂, sym, ◌∙◌, refl, subst}
+use Rattle.std.proofs.Common.{◌≡◌, ℕ, List, [], ◌∷◌, ◌++◌, length, Bool, true, false, true≢false, set, ap, sym, ◌∙◌, refl, subst}
 use Rattle.std.specs.Prelude.{Option, Some, None, Result, Ok, Err, OnErr, slice_get}
 use Rattle.std.proofs.lemmas.List.{length-set}
 use Rattle.pybuf_lemmas.proofs.Lists.{element_after_set, set_to_itself}
 use Rattle.pybuf_value.specs.declared.faults.Fault.TheVariants as fault
 use Rattle.pybuf_value.specs.declared.snaps.Snap.{Snap}
-use Rattle.pybuf_command.specs.declared.kinds.Subject.{Subject}
 use Rattle.pybuf_command.specs.declared.commands.Verb.{Verb}
 use Rattle.pybuf_command.specs.declared.commands.LocalReply.{LocalReply}
 use Rattle.pybuf_command.specs.declared.commands.LocalReply.TheVariants as local
@@ -16,10 +15,9 @@ use Rattle.pybuf_exporter.specs.Step.{estep}
 use Rattle.pybuf_exporter.specs.Laws.{FreshRepliesAreCopies}
 use Rattle.pybuf_world.specs.declared.named.Named.{Named}
 use Rattle.pybuf_world.specs.declared.named.Target.{Target}
-use Rattle.pybuf_command.specs.declared.worlds.Reply.{Reply}
 use Rattle.pybuf_world.specs.World.{World, has_view, handles_with_copy, reply_with_copy, loans_of, world_after, step_with_loans}
 use Rattle.pybuf_world.specs.Stepping.{local_step}
-use Rattle.pybuf_world.specs.Tables.{owners_after, IsCopyAt, IsFresh, IfFresh, with_made, with_copy, answered}
+use Rattle.pybuf_world.specs.Tables.{IsCopyAt, IsFresh, IfFresh, with_copy, answered}
 
 -- ---- replies
 
@@ -127,17 +125,3 @@ with_room es names handles t v after r same is =
 pub both_on_err : {X E : Type 0} (P Q R : Type 0) (r : Result X E) → (P → Q → R) → OnErr r P → OnErr r Q → OnErr r R
 both_on_err P Q R (Ok x) go p q = p
 both_on_err P Q R (Err e) go p q = go p q
-
--- ---- the exporter that a copy makes
-
--- The exporter is added with or without its view.
-pub copy_added : (w after : World) (o : Option Exporter) (e made : Exporter) (s : Subject) (snap : Snap) (viewed : Bool) (r : Reply) → o ≡ Some e → made ≡ made_of (is_readonly_subject e s) snap
-    → viewed ≡ has_view snap.kind → with_made viewed w made ≡ (after, r) → with_copy w o s snap ≡ (after, r)
-copy_added w after o e made s snap viewed r found is kind added =
-    ap (λ (x : Option Exporter). with_copy w x s snap) found
-    ∙ ap₂ (λ (b : Bool) (x : Exporter). with_made b w x) (sym kind) (sym is) ∙ added
-
--- the handles of the exporters after the local reply
-pub owners_by_reply : (w after : World) (t : Target) (v : Verb) (loans : List (ℕ × Loan)) (o : Option Exporter) (r : LocalReply) (owners : List ℕ) → local_step w t v loans o ≡ (after, r)
-    → owners_after owners (length w.handles) (local_step w t v loans o).1 ≡ owners_after owners (length w.handles) r
-owners_by_reply w after t v loans o r owners is = ap (λ (p : World × LocalReply). owners_after owners (length w.handles) p.1) is

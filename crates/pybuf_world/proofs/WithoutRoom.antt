@@ -1,14 +1,13 @@
 -- The exporters of a list, without their room.
 use Rattle.std.proofs.Common.{◌≡◌, ℕ, ◌<◌, List, length, set, get_or, ap, sym, ◌∙◌}
-use Rattle.std.specs.Prelude.{slice_get, Option, Some, None, Result, Ok, Err, MatchResult}
+use Rattle.std.specs.Prelude.{slice_get, Option, Some, Result, Ok, Err, MatchResult}
 use Rattle.std.specs.Option.{option_map}
 use Rattle.std.proofs.lemmas.List.{map-set, length-map}
 use Rattle.std.proofs.lemmas.Option.{slice_get-map, slice_get-get_or}
 use Rattle.pybuf_value.specs.declared.faults.Fault.{Fault}
-use Rattle.pybuf_value.specs.declared.faults.Fault.TheVariants as fault
 use Rattle.pybuf_state.specs.Exporter.{Exporter, released_in}
 use Rattle.pybuf_exporter.specs.Stored.{StoredExporter}
-use Rattle.pybuf_world.specs.World.{World, world_with_released, released_in_exporter}
+use Rattle.pybuf_world.specs.World.{World, world_with_released}
 use Rattle.pybuf_world.specs.Listing.{exporters_of, with_released, released_among}
 
 abbrev seen : StoredExporter → Exporter
@@ -32,18 +31,6 @@ released_err es i k e f at is = ap (released_among es i k) at ∙ ap (with_relea
 world_after : (w : World) (i k : ℕ) (r : Result Exporter Fault) (es : List Exporter) → with_released w.exporters i r ≡ Ok es → world_with_released w i r ≡ Ok (record w { exporters = es })
 world_after w i k (Ok e) es is = let same : set w.exporters i e ≡ es = cc in ap (λ (xs : List Exporter). let after : Result World Fault = Ok (record w { exporters = xs }) in after) same
 world_after w i k (Err f) es is = absurd (cc)
-
-world_refused : (w : World) (i k : ℕ) (r : Result Exporter Fault) (f : Fault) → with_released w.exporters i r ≡ Err f → world_with_released w i r ≡ Err f
-world_refused w i k (Ok e) f is = absurd (cc)
-world_refused w i k (Err g) f is = let same : g ≡ f = cc in ap (λ (x : Fault). let gone : Result World Fault = Err x in gone) same
-
-pub released_in_world : (w : World) (i k : ℕ) (o : Option Exporter) (es : List Exporter) → released_among w.exporters i k o ≡ Ok es → released_in_exporter w i k o ≡ Ok (record w { exporters = es })
-released_in_world w i k (Some e) es is = world_after w i k (released_in e k) es is
-released_in_world w i k None es is = absurd (cc)
-
-pub refused_in_world : (w : World) (i k : ℕ) (o : Option Exporter) (f : Fault) → released_among w.exporters i k o ≡ Err f → released_in_exporter w i k o ≡ Err f
-refused_in_world w i k (Some e) f is = world_refused w i k (released_in e k) f is
-refused_in_world w i k None f is = let same : fault.UnknownName ≡ f = cc in ap (λ (x : Fault). let gone : Result World Fault = Err x in gone) same
 
 -- an exporter of the list, whose view was released or wasn't
 pub released_listed : {A : Type 0} (ss : List StoredExporter) (es : List Exporter) (i k : ℕ) (s new : StoredExporter) (r : Result A Fault) → exporters_of ss ≡ es → slice_get (exporters_of ss) i ≡ Some s.exporter
