@@ -156,7 +156,7 @@ fn snap_of_other(alloc: Global, other: Other<'_>) -> Made<Option<Snap>>
 }
 
 /// What a handle names, as it stands.
-#[tactic(auto, using(crate::proofs::Meanings::own_snap, crate::proofs::Meanings::other_snap))]
+#[tactic(auto, using(crate::specs::Facts::own_snap, crate::specs::Facts::other_snap))]
 fn snap_of_meaning(parts: &Parts, alloc: Global, meaning: Meaning<'_>) -> Made<Option<Snap>>
     requires whole { IsWhole parts.now }
     requires sound { names_spec.IsSoundMeaning meaning }

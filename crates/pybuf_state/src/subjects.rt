@@ -155,7 +155,7 @@ pub fn content_of_other<'a>(alloc: Global, other: Other<'a>) -> Result<Lent<'a>,
 
 /// What kind of thing a handle names. It is `None` exactly where the handle names nothing that is there.
 /// Example: of `Meaning::Nothing` it is `None`.
-#[tactic(auto, using(crate::proofs::Meanings::own_snap, crate::proofs::Meanings::other_snap))]
+#[tactic(auto, using(crate::specs::Facts::own_snap, crate::specs::Facts::other_snap))]
 pub fn kind_of_meaning(parts: &Parts, meaning: Meaning<'_>) -> Option<SnapKind>
     ensures { result ≡ kind_of_named (snap_in (exporter_of parts.now) (names_spec.meant meaning.entry)) }
 {
@@ -170,7 +170,7 @@ pub fn kind_of_meaning(parts: &Parts, meaning: Meaning<'_>) -> Option<SnapKind>
 ///
 /// Refused with `UnknownName` where it names nothing, else as those of a subject are.
 /// Example: of `Meaning::Own(Subject::Own)` it is all bytes of `parts`, and of `Meaning::Nothing` `Err(Fault::UnknownName)`.
-#[tactic(auto, using(crate::proofs::Meanings::own_snap, crate::proofs::Meanings::other_snap))]
+#[tactic(auto, using(crate::specs::Facts::own_snap, crate::specs::Facts::other_snap))]
 pub fn run_of_meaning<'a>(parts: &'a Parts, meaning: Meaning<'a>) -> Result<&'a [u8], Fault>
     requires whole { IsWhole parts.now }
     requires sound { names_spec.IsSoundMeaning meaning }
@@ -187,7 +187,7 @@ pub fn run_of_meaning<'a>(parts: &'a Parts, meaning: Meaning<'a>) -> Result<&'a 
 ///
 /// Refused with `UnknownName` where it names nothing, else as those of a subject are.
 /// Example: of `Meaning::Own(Subject::Own)` it lends all bytes of `parts`.
-#[tactic(auto, using(crate::proofs::Meanings::own_snap, crate::proofs::Meanings::other_snap))]
+#[tactic(auto, using(crate::specs::Facts::own_snap, crate::specs::Facts::other_snap))]
 pub fn content_of_meaning<'a>(
     alloc: Global,
     parts: &'a Parts,

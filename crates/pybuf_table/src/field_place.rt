@@ -55,7 +55,7 @@ fn span(order: Endianness, code: &FormatCode) -> usize
 }
 
 /// The field of a number among those of a code, of which the first begins at a place.
-#[tactic(auto, using(crate::proofs::FieldLemmas::unit_within, crate::proofs::FieldLemmas::unit_in_row))]
+#[tactic(auto, using(pybuf_lemmas::proofs::Numbers::item_ends_before_next, crate::proofs::FieldLemmas::unit_in_row))]
 fn field_of_code(order: Endianness, code: &FormatCode, start: usize, number: usize) -> FieldPlace
     requires there { number < field_count code.now }
     requires fits { start + span order code.now < 2 ^ 63 }

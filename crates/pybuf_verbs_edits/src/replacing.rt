@@ -148,7 +148,7 @@ fn put_other<L: Ledger>(
 }
 
 /// Puts the bytes of what a handle names there.
-#[tactic(auto, using(crate::proofs::Lending::other_snap))]
+#[tactic(auto, using(pybuf_state::specs::Facts::other_snap))]
 fn put_meaning<L: Ledger>(
     parts: &mut Parts,
     slice: SaturatedSlice,
@@ -303,7 +303,7 @@ fn init_by_other(parts: &mut Parts, other: Other<'_>) -> Result<LocalReply, Halt
 }
 
 /// By what a handle names.
-#[tactic(auto, using(crate::proofs::Lending::other_snap))]
+#[tactic(auto, using(pybuf_state::specs::Facts::other_snap))]
 fn init_by_meaning(parts: &mut Parts, meaning: Meaning<'_>) -> Result<LocalReply, Halt>
     requires whole { IsWhole parts.old }
     requires sound { names_spec.IsSoundMeaning meaning }

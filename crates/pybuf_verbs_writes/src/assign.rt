@@ -261,7 +261,7 @@ fn from_subject_across(
 }
 
 /// Copies what a handle names.
-#[tactic(auto, using(crate::proofs::Assigning::other_snap))]
+#[tactic(auto, using(pybuf_state::specs::Facts::other_snap))]
 fn from_meaning(
     parts: &mut Parts,
     target: &KeptLayout,
