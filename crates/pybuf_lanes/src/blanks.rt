@@ -6,12 +6,12 @@ ghost use Rattle.pybuf_lanes.specs.Blanks as spec;
 
 use std::simd::prelude::*;
 
-/// Whether a byte is a blank, by no branch: which blank it is, is seldom foreseen.
+/// Whether a byte is a blank.
 #[inline(always)]
 fn is_blank(byte: u8) -> bool
     ensures { result ≡ spec.is_blank byte }
 {
-    (byte == b' ') | (byte.wrapping_sub(b'\t') < 5)
+    byte == b' ' || b'\t' <= byte && byte <= b'\r'
 }
 
 /// A mask with bit k set exactly where lane k is no blank.
