@@ -3,3 +3,4 @@ mod DigitPairs
 mod Counts
 mod Runs
 mod Blocks
+mod Steps

@@ -7,9 +7,11 @@
 mod blanks;
 mod counting;
 mod digits;
+mod gathers;
 mod pairs;
 
 pub use blanks::{leading_blanks, trailing_blanks};
 pub use counting::count_byte;
 pub use digits::write_digits;
+pub use gathers::gather_halves;
 pub use pairs::read_digits;

@@ -1,11 +1,12 @@
 //! Bytes without those at their ends that a set holds.
-ghost use Rattle.std.specs.Prelude.{◌≡◌, ℕ};
+ghost use Rattle.std.specs.Prelude.{◌≡◌, ℕ, Some};
 ghost use Rattle.std.specs.Option.{option_copied};
 ghost use Rattle.bstr.specs.Bytes.{is_in};
 ghost use Rattle.pybuf_letters.specs.Classes.{is_blank};
 ghost use Rattle.pybuf_letters.specs.Strips as spec;
 
 use bstr::ByteSlice;
+use pybuf_lanes::{leading_blanks, trailing_blanks};
 
 /// The six blanks.
 pub(crate) fn blanks() -> &'static [u8]
@@ -14,13 +15,23 @@ pub(crate) fn blanks() -> &'static [u8]
     b" \t\n\x0b\x0c\r"
 }
 
-/// The bytes that go: those that are named, or else the blanks.
-fn set_of(chars: Option<&[u8]>) -> &[u8]
-    ensures { (b : ℕ) → is_in result.now b ≡ spec.goes (option_copied chars.entry) b }
+/// The bytes from the first on that isn't among `chars`.
+fn from_first_other<'a>(bytes: &'a [u8], chars: &[u8]) -> &'a [u8]
+    ensures { result.now ≡ spec.stripped_left (spec.goes (Some chars.now)) bytes.now }
 {
-    match chars {
-        Some(chars) => chars,
-        None => blanks(),
+    match bytes.find_not_byteset(chars) {
+        None => &bytes[bytes.len()..],
+        Some(start) => &bytes[start..],
+    }
+}
+
+/// The bytes up to the last that isn't among `chars`.
+fn up_to_last_other<'a>(bytes: &'a [u8], chars: &[u8]) -> &'a [u8]
+    ensures { result.now ≡ spec.stripped_right (spec.goes (Some chars.now)) bytes.now }
+{
+    match bytes.rfind_not_byteset(chars) {
+        None => &bytes[..0],
+        Some(last) => &bytes[..last + 1],
     }
 }
 
@@ -32,9 +43,9 @@ fn set_of(chars: Option<&[u8]>) -> &[u8]
 pub fn strip_left<'a>(bytes: &'a [u8], chars: Option<&[u8]>) -> &'a [u8]
     ensures { result.now ≡ spec.stripped_left (spec.goes (option_copied chars.entry)) bytes.now }
 {
-    match bytes.find_not_byteset(set_of(chars)) {
-        None => &bytes[bytes.len()..],
-        Some(start) => &bytes[start..],
+    match chars {
+        None => &bytes[leading_blanks(bytes)..],
+        Some(chars) => from_first_other(bytes, chars),
     }
 }
 
@@ -45,9 +56,9 @@ pub fn strip_left<'a>(bytes: &'a [u8], chars: Option<&[u8]>) -> &'a [u8]
 pub fn strip_right<'a>(bytes: &'a [u8], chars: Option<&[u8]>) -> &'a [u8]
     ensures { result.now ≡ spec.stripped_right (spec.goes (option_copied chars.entry)) bytes.now }
 {
-    match bytes.rfind_not_byteset(set_of(chars)) {
-        None => &bytes[..0],
-        Some(last) => &bytes[..last + 1],
+    match chars {
+        None => &bytes[..bytes.len() - trailing_blanks(bytes)],
+        Some(chars) => up_to_last_other(bytes, chars),
     }
 }
 

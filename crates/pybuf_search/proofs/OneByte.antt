@@ -1,5 +1,7 @@
 -- The matches of one byte are the places of that byte.
-use Rattle.std.proofs.Common.{◌≡◌, ℕ, zero, suc, ◌+◌, ◌-◌, ◌<◌, List, [], ◌∷◌, length, slice_index, Decides, sym, ap, ◌∙◌, arith, ⊎_elim, eq-eqb, eqb-true, cond}
+use Rattle.std.proofs.Common.{Bool, true, false, drop, count_by, ◌≡◌, ℕ, zero, suc, ◌+◌, ◌-◌, ◌<◌, List, [], ◌∷◌, length, slice_index, Decides, sym, ap, ◌∙◌, arith, ⊎_elim, eq-eqb, eqb-true, cond}
+use Rattle.std.proofs.lemmas.List.{drop_all}
+use Rattle.std.proofs.lemmas.List.Sums.{sum_by-drop_more}
 use Rattle.std.proofs.lemmas.Bool.{cases_Bool, cond-false}
 use Rattle.std.proofs.lemmas.Bool.Decides.{same_from_decides}
 use Rattle.memchr.specs.Find.{OccursAt, occurs_at, is_byte, places_from, places, matches_from, matches}
@@ -43,7 +45,26 @@ module _ (bytes : List ℕ) (b : ℕ) where
       let same : length bytes ≡ length bytes - 0 = omega arith in
       ap (matches_from bytes (b ∷ []) 0 0) whole ∙ one_from (length bytes) 0 (omega arith) ∙ ap (places_from (is_byte b) bytes 0) same
 
-pub counted_by_byte : (bytes needle : List ℕ) (b : ℕ) → length needle ≡ 1 → b ≡ slice_index needle 0 → length (places (is_byte b) bytes) ≡ number_of_matches bytes needle
-counted_by_byte bytes [] b one is = absurd (omega arith)
-counted_by_byte bytes (first ∷ []) b one is = ap (λ k. length (places (is_byte k) bytes)) is ∙ sym (ap length (matches-one bytes first))
-counted_by_byte bytes (first ∷ second ∷ more) b one is = absurd (omega arith)
+  -- there are as many places as there are bytes of the one
+  one_place : (test : Bool) (i : ℕ) (later : List ℕ) → length (cond test (i ∷ later) later) ≡ cond test 1 0 + length later
+  one_place true i later = omega arith
+  one_place false i later = omega arith
+
+  counted_from : (n i : ℕ) → i + n ≡ length bytes → length (places_from (is_byte b) bytes i n) ≡ count_by (is_byte b) (drop i bytes)
+  unfolding places_from
+  counted_from zero i fit = sym (ap (count_by (is_byte b)) (drop_all i bytes (omega arith)))
+  counted_from (suc n) i fit =
+      let test = is_byte b (slice_index bytes i) in
+      one_place test i (places_from (is_byte b) bytes (i + 1) n)
+      ∙ ap (λ count. cond test 1 0 + count) (counted_from n (i + 1) (omega arith))
+      ∙ sym (sum_by-drop_more (λ x. cond (is_byte b x) 1 0) bytes i 0 (omega arith))
+
+  matches-counted : length (matches bytes (b ∷ []) 0) ≡ count_by (is_byte b) bytes
+  matches-counted =
+      let whole : length bytes - 0 ≡ length bytes = omega arith in
+      ap length matches-one ∙ ap (λ n. length (places_from (is_byte b) bytes 0 n)) whole ∙ counted_from (length bytes) 0 (omega arith)
+
+pub counted_by_byte : (bytes needle : List ℕ) (b count : ℕ) → length needle ≡ 1 → b ≡ slice_index needle 0 → count ≡ count_by (is_byte b) bytes → count ≡ number_of_matches bytes needle
+counted_by_byte bytes [] b count one is counted = absurd (omega arith)
+counted_by_byte bytes (first ∷ []) b count one is counted = counted ∙ ap (λ k. count_by (is_byte k) bytes) is ∙ sym (matches-counted bytes first)
+counted_by_byte bytes (first ∷ second ∷ more) b count one is counted = absurd (omega arith)

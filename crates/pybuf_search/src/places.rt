@@ -4,7 +4,7 @@ ghost use Rattle.bstr.specs.Find.{FindsNeedle};
 ghost use Rattle.pybuf_search.specs.Places as spec;
 
 use bstr::ByteSlice;
-use memchr::memchr_iter;
+use pybuf_lanes::count_byte;
 
 /// The first place of a needle that is as long as the bytes, where it can stand at 0 alone: to compare them
 /// costs less than a search.
@@ -57,12 +57,11 @@ pub fn holds_needle(bytes: &[u8], needle: &[u8]) -> bool
 /// `bytes.count`).
 ///
 /// Example: `number_of_matches(b"aaaa", b"aa")` is 2, and `number_of_matches(b"ab", b"")` is 3.
-#[tactic(auto, using(crate::proofs::OneByte::counted_by_byte))]
 pub fn number_of_matches(bytes: &[u8], needle: &[u8]) -> usize
     ensures { result ≡ spec.number_of_matches bytes.now needle.now }
 {
     if needle.len() == 1 {
-        return memchr_iter(needle[0], bytes).count();
+        return count_byte(bytes, needle[0]);
     }
     let mut number = 0;
     let mut places = bytes.find_iter(needle);

@@ -1,11 +1,14 @@
 -- Items that are copied one after the other.
-use Rattle.std.proofs.Common.{◌≡◌, ℕ, zero, suc, ◌+◌, ◌*◌, ◌<◌, ◌≤◌, false, List, [], ◌++◌, length, take, drop, ap, ap₂, sym, ◌∙◌, refl, arith}
+use Rattle.std.proofs.Common.{◌≡◌, ℕ, zero, suc, ◌+◌, ◌-◌, ◌*◌, ◌<◌, ◌≤◌, false, List, [], ◌∷◌, ◌++◌, length, take, drop, get_or, ap, ap₂, sym, ◌∙◌, refl, arith}
 use Rattle.std.proofs.Math.Nat.{zero-mul, mul-le-mul_right}
 use Rattle.std.proofs.lemmas.Grind.{common_steps}
-use Rattle.std.proofs.lemmas.List.{length-append, append-nil}
+use Rattle.std.proofs.lemmas.List.{length-append, length-take-le, length-drop, append-nil, append_assoc, take_at, take_rest, take-append-drop, drop-drop, drop_more, get_or-drop}
+use borrow.Rule.Slice.PartMut.{put_mid}
+use Rattle.std.proofs.Math.Seq.{drop-append-add}
+use Rattle.pybuf_lanes.specs.Gathers.{every}
 use Rattle.pybuf_lemmas.proofs.Lists.{length_of_piece}
 use Rattle.pybuf_strided.specs.Facts.{piece_after}
-use Rattle.pybuf_strided.specs.Apart.{place_of, with_piece, moved_at, pieces_at}
+use Rattle.pybuf_strided.specs.Apart.{AreInside, place_of, with_piece, moved_at, pieces_at}
 
 -- One more item is copied.
 pub next_moved : (bytes : List ℕ) (to : ℕ → ℕ) (source : List ℕ) (from : ℕ → ℕ) (size k : ℕ) (now more : List ℕ) → now ≡ moved_at bytes to source from size k
@@ -78,3 +81,59 @@ room_inside size count len whole some k less =
     let sum : suc k * size ≡ k * size + size = grind arith in
     let turned : size * count ≡ count * size = grind arith in
     omega (arith, whole, more, sum, turned)
+
+-- ---- bytes by steps upwards, to where they lie one after the other
+
+length-every : (step n : ℕ) (bytes : List ℕ) → length (every step n bytes) ≡ n
+length-every step zero bytes = refl
+length-every step (suc n) bytes = omega (arith, length-append (every step n bytes) (get_or bytes (step * n) 0 ∷ []), length-every step n bytes)
+
+byte_at : (source : List ℕ) (place : ℕ) → place < length source → take 1 (drop place source) ≡ get_or source place 0 ∷ []
+byte_at source place inside = ap (take 1) (drop_more source place 0 inside)
+
+pub rising_moved : (bytes source : List ℕ) (to from step n : ℕ) → Lie source (place_of false from step) 1 n → to + n ≤ length bytes
+    → moved_at bytes (place_of false to 1) source (place_of false from step) 1 n ≡ (take to bytes ++ every step n (drop from source)) ++ drop (to + n) bytes
+rising_moved bytes source to from step zero all inside =
+    let same : to + 0 ≡ to = omega arith in
+    sym (ap₂ (λ (xs : List ℕ) (k : ℕ). xs ++ drop k bytes) (append-nil (take to bytes)) same ∙ take-append-drop to bytes)
+rising_moved bytes source to from step (suc n) all inside =
+    let front : List ℕ = take to bytes ++ every step n (drop from source) in
+    let b : ℕ = get_or (drop from source) (step * n) 0 in
+    let room : to + n ≤ length bytes = omega (arith, inside) in
+    let whole : to ≤ length bytes = omega (arith, inside) in
+    let at : to + n * 1 ≡ to + n = omega arith in
+    let next : to + n + 1 ≡ to + suc n = omega arith in
+    let place : from + n * step ≡ from + step * n = grind arith in
+    let last : from + n * step + 1 ≤ length source = all (omega arith) n (omega arith) in
+    let item : take 1 (drop (from + n * step) source) ≡ b ∷ [] =
+    byte_at source (from + n * step) (omega (arith, last)) ∙ ap (λ (k : ℕ). get_or source k 0 ∷ []) place ∙ ap (λ (x : ℕ). x ∷ []) (sym (get_or-drop from source (step * n) 0)) in
+    let long : length front ≡ to + n = omega (arith, length-append (take to bytes) (every step n (drop from source)), length-take-le to bytes whole, length-every step n (drop from source)) in
+    ap₂ (λ (xs : List ℕ) (k : ℕ). with_piece xs k (take 1 (drop (from + n * step) source))) (rising_moved bytes source to from step n (fewer source (place_of false from step) 1 n all) room) at
+    ∙ ap (with_piece (front ++ drop (to + n) bytes) (to + n)) item
+    ∙ piece_after front (b ∷ []) bytes (to + n) long
+    ∙ ap₂ (λ (xs : List ℕ) (k : ℕ). xs ++ drop k bytes) (append_assoc (take to bytes) (every step n (drop from source)) (b ∷ [])) next
+
+-- every second byte, written over so many bytes
+pub seconds_moved : (bytes source written : List ℕ) (to from count many room : ℕ) → 0 < count → to + count ≤ length bytes → from + 2 * count < length source + 2 → many ≡ count → room ≡ count
+    → written ≡ every 2 room (take (length source - from) (drop from source)) → put_mid to many bytes written ≡ moved_at bytes (place_of false to 1) source (place_of false from 2) 1 count
+seconds_moved bytes source written to from count many room some inside source_inside all as_many is =
+    let lie : Lie source (place_of false from 2) 1 count = λ one k less. omega (arith, source_inside, less) in
+    let rest : List ℕ = drop from source in
+    let gathered : written ≡ every 2 count rest = is ∙ ap₂ (λ (n : ℕ) (xs : List ℕ). every 2 n xs) as_many (take_rest source from) in
+    ap₂ (λ (k : ℕ) (ys : List ℕ). put_mid to k bytes ys) all gathered
+    ∙ ap (λ (xs : List ℕ). take to bytes ++ (every 2 count rest ++ xs)) (drop-drop count to bytes)
+    ∙ sym (append_assoc (take to bytes) (every 2 count rest) (drop (to + count) bytes))
+    ∙ sym (rising_moved bytes source to from 2 count lie inside)
+
+-- where bytes lie that are copied so
+pub ones_inside : (start step count size room : ℕ) → AreInside false start step count size room → 0 < count → size ≡ 1 → step ≡ 1 → start + count ≤ room
+ones_inside start step count size room all some one by =
+    let last : start + (count - 1) * step + size ≤ room = all.high (omega (arith, one)) (count - 1) (omega (arith, some)) in
+    let times : (count - 1) * step ≡ count - 1 = ap (λ (k : ℕ). (count - 1) * k) by ∙ omega arith in
+    omega (arith, last, times, one, some)
+
+pub seconds_inside : (start step count size room : ℕ) → AreInside false start step count size room → 0 < count → size ≡ 1 → step ≡ 2 → start + 2 * count < room + 2
+seconds_inside start step count size room all some one by =
+    let last : start + (count - 1) * step + size ≤ room = all.high (omega (arith, one)) (count - 1) (omega (arith, some)) in
+    let times : (count - 1) * step ≡ 2 * count - 2 = ap (λ (k : ℕ). (count - 1) * k) by ∙ omega arith in
+    omega (arith, last, times, one, some)

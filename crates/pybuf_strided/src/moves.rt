@@ -1,6 +1,8 @@
 //! The loops.
-ghost use Rattle.std.specs.Prelude.{◌≡◌, ◌+◌, ◌*◌, ◌<◌, ◌≤◌, ◌^◌, true, length, take, drop};
+ghost use Rattle.std.specs.Prelude.{◌≡◌, ◌+◌, ◌*◌, ◌<◌, ◌≤◌, ◌^◌, true, false, length, take, drop};
 ghost use Rattle.pybuf_strided.specs.Apart.{place_of, AreInside, with_piece, moved_at};
+
+use pybuf_lanes::gather_halves;
 
 /// Where items lie: the place of the first, and how far each is from the one before it, above it or
 /// below.
@@ -195,6 +197,30 @@ fn copy_by_size<const TO_FALLS: bool, const FROM_FALLS: bool>(
     }
 }
 
+/// Copies every second byte to where they lie one after the other, by lanes.
+fn copy_seconds(bytes: &mut [u8], to: usize, source: &[u8], from: usize, count: usize)
+    requires some { 0 < count }
+    requires inside { to + count ≤ length bytes.old }
+    requires source_inside { from + 2 * count < length source.now + 2 }
+    ensures { bytes.new ≡ moved_at bytes.old (place_of false to 1) source.now (place_of false from 2) 1 count }
+{
+    gather_halves(&source[from..], &mut bytes[to..to + count]);
+}
+
+/// Copies items upwards from where they lie upwards.
+fn copy_rising(bytes: &mut [u8], to: Track, source: &[u8], from: Track, size: usize, count: usize)
+    requires some_size { 0 < size }
+    requires inside { AreInside false to.start to.step count size (length bytes.old) }
+    requires source_inside { AreInside false from.start from.step count size (length source.now) }
+    ensures { bytes.new ≡ moved_at bytes.old (place_of false to.start to.step) source.now (place_of false from.start from.step) size count }
+{
+    if size == 1 && to.step == 1 && from.step == 2 && count > 0 {
+        copy_seconds(bytes, to.start, source, from.start, count);
+    } else {
+        copy_by_size::<false, false>(bytes, to, source, from, size, count);
+    }
+}
+
 /// Copies items of a size above 0, with the loop for their directions.
 fn copy_some(bytes: &mut [u8], to: Track, source: &[u8], from: Track, size: usize, count: usize)
     requires some_size { 0 < size }
@@ -203,7 +229,7 @@ fn copy_some(bytes: &mut [u8], to: Track, source: &[u8], from: Track, size: usiz
     ensures { bytes.new ≡ moved_at bytes.old (place_of to.falls to.start to.step) source.now (place_of from.falls from.start from.step) size count }
 {
     match (to.falls, from.falls) {
-        (false, false) => copy_by_size::<false, false>(bytes, to, source, from, size, count),
+        (false, false) => copy_rising(bytes, to, source, from, size, count),
         (false, true) => copy_by_size::<false, true>(bytes, to, source, from, size, count),
         (true, false) => copy_by_size::<true, false>(bytes, to, source, from, size, count),
         (true, true) => copy_by_size::<true, true>(bytes, to, source, from, size, count),
