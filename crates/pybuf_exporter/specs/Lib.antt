@@ -11,3 +11,4 @@ pub mod Telling
 pub mod Counting
 pub mod Releasing
 pub mod Handles
+pub mod Lengths
