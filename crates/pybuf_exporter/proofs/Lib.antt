@@ -15,3 +15,4 @@ pub mod Arguments
 pub mod Faults
 pub mod Unknown
 pub mod Releasing
+pub mod Resizing

@@ -13,3 +13,4 @@ pub mod Counting
 pub mod Releasing
 pub mod Handles
 pub mod Facts
+pub mod Lengths

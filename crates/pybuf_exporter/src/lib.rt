@@ -7,6 +7,7 @@ mod counted;
 mod direct;
 mod exporter;
 mod laws;
+mod lengths;
 mod pick;
 mod plain;
 mod uncounted;

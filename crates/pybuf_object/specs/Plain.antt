@@ -1,12 +1,13 @@
 -- Calls on bytes and bytearrays with plain arguments. They have no values, no loans and no replies.
-use Rattle.std.specs.Prelude.{◌≡◌, IsOk, ℕ, suc, Bool, ℤ, negsuc, List, [], ◌∷◌, ◌++◌, length, take, drop, slice_get, slice_index, slice_set, Option, None, Some, Result, Ok, Err}
+use Rattle.std.specs.Prelude.{◌≡◌, IsOk, ℕ, suc, Bool, ℤ, negsuc, List, [], ◌∷◌, ◌++◌, length, take, drop, nat_lt, slice_get, slice_index, slice_set, Option, None, Some, Result, Ok, Err}
 use Rattle.std.specs.Option.{option_and_then}
 use Rattle.std.specs.Global.{Vec}
 use Rattle.pybuf_value.specs.declared.faults.Fault.{Fault}
 use Rattle.pybuf_value.specs.declared.halt.Halt.{Halt}
 use Rattle.pybuf_value.specs.declared.halt.Halt.TheVariants as halt
+use Rattle.pybuf_value.specs.declared.faults.Fault.TheVariants as fault
 use Rattle.pybuf_value.specs.Halting.{Answered, Settled}
-use Rattle.pybuf_value.specs.Refusing.{◌>>=◌}
+use Rattle.pybuf_value.specs.Refusing.{◌>>=◌, unless}
 use Rattle.pybuf_value.specs.Making.{slice_of}
 use Rattle.pybuf_index.specs.Parts.{saturated_parts_of, picks_of}
 use Rattle.pybuf_index.specs.Places.{saturated_place, item_place, entry_in}
@@ -26,6 +27,11 @@ Settles wanted old result new = Settled result (λ x. (new, x)) (new ≡ old) (I
 -- the same for a call that takes no memory
 abbrev pub SettlesAtOnce : {X : Type 0} → Result (Exporter × X) Fault → Exporter → Result X Halt → Exporter → Type 0
 SettlesAtOnce wanted old result new = Settled result (λ x. (new, x)) (new ≡ old) ⊥ wanted
+
+-- the same of a call that answers with a fault alone
+abbrev pub SettlesFault : {X : Type 0} → Result (Exporter × X) Fault → Exporter → Result X Fault → Exporter → Type 0
+SettlesFault wanted old (Ok x) new = wanted ≡ Ok (new, x)
+SettlesFault wanted old (Err f) new = (wanted ≡ Err f) × (new ≡ old)
 
 -- The answer is these bytes, or the refusal, unless memory runs out.
 abbrev pub GivesBytes : Result (List ℕ) Fault → Result (Vec ℕ) Halt → Type 0
@@ -64,6 +70,14 @@ pushed e byte = resized_to e (e.bytes ++ byte ∷ []) tt
 abbrev pub extended_by : Exporter → List ℕ → Result (Exporter × Unit {0}) Fault
 extended_by e others = resized_to e (e.bytes ++ others) tt
 
+-- bytes more, before the one at a place
+abbrev pub put_before : Exporter → ℕ → List ℕ → Result (Exporter × Unit {0}) Fault
+put_before e place others = resized_to e (replaced_range e.bytes place place others) tt
+
+-- without the bytes from one place up to another
+abbrev pub cut_out : Exporter → ℕ → ℕ → Result (Exporter × Unit {0}) Fault
+cut_out e start end = resized_to e (replaced_range e.bytes start end []) tt
+
 -- one more byte, before the place that is nearest to a number
 abbrev pub inserted_at : Exporter → ℤ → ℕ → Result (Exporter × Unit {0}) Fault
 inserted_at e index byte = resized_to e (replaced_range e.bytes (saturated_place (length e.bytes) index) (saturated_place (length e.bytes) index) (byte ∷ [])) tt
@@ -71,6 +85,17 @@ inserted_at e index byte = resized_to e (replaced_range e.bytes (saturated_place
 -- the bytes without the one at a place
 abbrev pub without : List ℕ → ℕ → List ℕ
 without bytes place = replaced_range bytes place (suc place) []
+
+-- without the byte at a place, which is the answer
+abbrev pub taken_out : Exporter → ℕ → Result (Exporter × ℕ) Fault
+taken_out e place = resized_to e (without e.bytes place) (slice_index e.bytes place)
+
+-- without the first bytes, as many as are asked for, which are the answer; where there are fewer, `IndexError`
+abbrev pub front_taken : Exporter → ℕ → Result (Exporter × List ℕ) Fault
+front_taken e count = do
+  _ ← may_resize e
+  _ ← unless (nat_lt (length e.bytes) count) fault.Index
+  Ok (record e { bytes = drop count e.bytes }, take count e.bytes)
 
 -- The bytes lose the one that a number names, and that byte is the answer.
 abbrev pub removed_at : Exporter → ℤ → Result (Exporter × ℕ) Fault

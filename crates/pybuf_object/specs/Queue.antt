@@ -1,5 +1,5 @@
 -- A bytearray as a queue: a write adds bytes at the end, and a read takes bytes from the front.
-use Rattle.std.specs.Prelude.{◌≡◌, IsErr, MatchResult, ℕ, min, List, ◌++◌, length, take, drop, Result, Ok, Err}
+use Rattle.std.specs.Prelude.{◌≡◌, IsErr, MatchResult, ℕ, min, Bool, List, ◌++◌, length, take, drop, Result, Ok, Err}
 use Rattle.std.specs.IoError.{error_kind}
 use Rattle.std.specs.declared.io.Error.{Error}
 use Rattle.std.specs.declared.io.ErrorKind.{ErrorKind}
@@ -8,7 +8,7 @@ use Rattle.pybuf_value.specs.declared.faults.Fault.{Fault}
 use Rattle.pybuf_value.specs.declared.halt.Halt.{Halt}
 use Rattle.pybuf_value.specs.declared.halt.Halt.TheVariants as halt
 use Rattle.pybuf_state.specs.Exporter.{Exporter}
-use Rattle.pybuf_object.specs.Plain.{resized_to}
+use Rattle.pybuf_object.specs.Plain.{may_resize, resized_to}
 
 -- ---- what a call does
 
@@ -23,6 +23,22 @@ written_behind e bytes = resized_to e (e.bytes ++ bytes) (length bytes)
 -- the room after `count` bytes of the front were read into its first places
 abbrev pub filled_from : Exporter → List ℕ → ℕ → List ℕ
 filled_from e room count = take count e.bytes ++ drop count room
+
+-- all bytes of the front may be consumed, and none while their number may not change
+abbrev pub consumable_by : Result Bool Fault → Exporter → ℕ
+consumable_by (Ok _) e = length e.bytes
+consumable_by (Err _) e = 0
+
+abbrev pub consumable : Exporter → ℕ
+consumable e = consumable_by (may_resize e) e
+
+-- without this many bytes of the front, where their number may change, and else as before
+abbrev pub consumed_by : Result Bool Fault → Exporter → ℕ → Exporter
+consumed_by (Ok _) e amount = record e { bytes = drop amount e.bytes }
+consumed_by (Err _) e amount = e
+
+abbrev pub consumed : Exporter → ℕ → Exporter
+consumed e amount = consumed_by (may_resize e) e amount
 
 -- ---- how a call answers
 

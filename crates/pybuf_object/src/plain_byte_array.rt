@@ -1,11 +1,10 @@
 //! `PyByteArray` by plain arguments: each call makes no value, no loan and no reply.
-ghost use Rattle.std.specs.Prelude.{◌≡◌, ◌==◌, ◌<◌, ◌∷◌, [], negsuc, length, drop, slice_index, slice_set, true, None, Ok, Err, IfOk, IfErr, OnOk, OnErr, IsSomeAnd, MatchOption, MatchResult};
+ghost use Rattle.std.specs.Prelude.{◌≡◌, ◌==◌, ◌<◌, ◌≤◌, [], length, take, slice_set, true, Ok, Err, IfOk, IsSomeAnd, MatchOption, MatchResult};
 ghost use Rattle.std.specs.Borrow.{sem};
-ghost use Rattle.pybuf_value.specs.declared.halt.Halt.TheVariants as halts;
+ghost use Rattle.std.specs.Result.{result_map_both};
 ghost use Rattle.pybuf_command.specs.declared.kinds.ExporterKind.TheVariants as kinds;
 ghost use Rattle.pybuf_state.specs.Exporter.{new_exporter};
-ghost use Rattle.pybuf_index.specs.Places.{item_place, entry_in, saturated_place};
-ghost use Rattle.pybuf_slice.specs.Edits.{replaced_range};
+ghost use Rattle.pybuf_index.specs.Places.{item_place, entry_in};
 ghost use Rattle.pybuf_object.specs.Plain as spec;
 ghost use Rattle.pybuf_object.specs.Queue as queue;
 
@@ -13,58 +12,9 @@ use crate::byte_array::PyByteArray;
 use crate::slices;
 use pybuf_command::ExporterKind;
 use pybuf_index::{SequenceIndexOp, entry_in};
-use pybuf_slice::SliceableSequenceMutOp;
 use pybuf_value::{Fault, Halt, Made};
 use std::alloc::Global;
 use std::mem;
-
-/// Takes the byte at a place out.
-fn take_out(bytes: &mut Vec<u8>, place: usize) -> u8
-    requires { place < length bytes.old.items }
-    ensures value { result ≡ slice_index bytes.old.items place }
-    ensures rest { bytes.new.items ≡ spec.without bytes.old.items place }
-{
-    let byte = bytes[place];
-    bytes.do_delete_range(place..place + 1);
-    byte
-}
-
-/// Takes the byte that a number names out.
-///
-/// Refused with `IndexError` exactly where there is none.
-fn take_named(bytes: &mut Vec<u8>, index: isize) -> Result<u8, Fault>
-    ensures { MatchResult result (λ byte. IsSomeAnd (item_place (length bytes.old.items) index) (λ place. (byte ≡ slice_index bytes.old.items place) × (bytes.new.items ≡ spec.without bytes.old.items place))) (λ fault. (entry_in (length bytes.old.items) index ≡ Err fault) × (bytes.new.items ≡ bytes.old.items)) }
-{
-    let place = entry_in(bytes.len(), index)?;
-    Ok(take_out(bytes, place))
-}
-
-/// Takes the last byte out, if there is one.
-fn take_last(bytes: &mut Vec<u8>) -> Option<u8>
-    ensures { MatchOption result ((item_place (length bytes.old.items) (negsuc 0) ≡ None) × (bytes.new.items ≡ bytes.old.items)) (λ byte. IsSomeAnd (item_place (length bytes.old.items) (negsuc 0)) (λ place. (byte ≡ slice_index bytes.old.items place) × (bytes.new.items ≡ spec.without bytes.old.items place))) }
-{
-    let place = (-1isize).wrapped_at(bytes.len())?;
-    Some(take_out(bytes, place))
-}
-
-/// Puts a byte before the place that is nearest to a number.
-fn put_before(bytes: &mut Vec<u8>, index: isize, byte: u8) -> Result<(), Halt>
-    ensures ok { OnOk result (bytes.new.items ≡ replaced_range bytes.old.items (saturated_place (length bytes.old.items) index) (saturated_place (length bytes.old.items) index) (byte ∷ [])) }
-    ensures err { OnErr result (bytes.new.items ≡ bytes.old.items) }
-    ensures memory { IfErr result (λ halt. halt ≡ halts.NoMemory) }
-{
-    let place = index.saturated_at(bytes.len());
-    bytes.insert(place, byte)?;
-    Ok(())
-}
-
-/// Takes so many bytes from the first on out, all where there are no more.
-fn take_front(bytes: &mut Vec<u8>, count: usize)
-    ensures { bytes.new.items ≡ drop count bytes.old.items }
-{
-    let end = count.min(bytes.len());
-    bytes.do_delete_range(0..end);
-}
 
 /// Puts a byte in place of the one that a number names.
 ///
@@ -177,6 +127,62 @@ impl PyByteArray {
         }
     }
 
+    /// Whether the number of bytes may change.
+    ///
+    /// Refused with `UnknownName` where another kind of exporter was put in, and with `BufferError` where a view is
+    /// unreleased.
+    pub(crate) fn check_resizable(&self) -> Result<(), Fault>
+        ensures { MatchResult result (λ _. spec.may_resize self.now ≡ Ok true) (λ fault. spec.may_resize self.now ≡ Err fault) }
+    {
+        match self.exporter.kind() {
+            ExporterKind::ByteArray => self.exporter.check_resizable(),
+            _ => Err(Fault::UnknownName),
+        }
+    }
+
+    /// Adds bytes at the end.
+    fn add_behind(&mut self, bytes: &[u8]) -> Result<(), Halt>
+        ensures { spec.Settles (spec.extended_by self.old bytes.now) self.old result self.new }
+    {
+        match self.exporter.kind() {
+            ExporterKind::ByteArray => self.exporter.append_bytes(bytes),
+            _ => Err(Halt::Refused(Fault::UnknownName)),
+        }
+    }
+
+    /// Puts bytes before the byte at a place.
+    fn put_before(&mut self, place: usize, bytes: &[u8]) -> Result<(), Halt>
+        requires { place ≤ length self.old.bytes }
+        ensures { spec.Settles (spec.put_before self.old place bytes.now) self.old result self.new }
+    {
+        match self.exporter.kind() {
+            ExporterKind::ByteArray => self.exporter.replace_bytes(place, place, bytes),
+            _ => Err(Halt::Refused(Fault::UnknownName)),
+        }
+    }
+
+    /// Takes out the bytes from one place up to another. Takes no memory.
+    fn cut_out(&mut self, start: usize, end: usize) -> Result<(), Fault>
+        requires ordered { start ≤ end }
+        requires inside { end ≤ length self.old.bytes }
+        ensures { spec.SettlesFault (spec.cut_out self.old start end) self.old result self.new }
+    {
+        match self.exporter.kind() {
+            ExporterKind::ByteArray => self.exporter.remove_bytes(start, end),
+            _ => Err(Fault::UnknownName),
+        }
+    }
+
+    /// Takes out the byte at a place. Takes no memory.
+    fn take_out(&mut self, place: usize) -> Result<u8, Fault>
+        requires { place < length self.old.bytes }
+        ensures { spec.SettlesFault (spec.taken_out self.old place) self.old result self.new }
+    {
+        let byte = self.exporter.bytes()[place];
+        self.cut_out(place, place + 1)?;
+        Ok(byte)
+    }
+
     /// Adds a byte at the end.
     ///
     /// Refused with `BufferError` where a view is unreleased. Nothing is changed then, nor where memory runs out.
@@ -184,8 +190,7 @@ impl PyByteArray {
     pub fn push(&mut self, byte: u8) -> Result<(), Halt>
         ensures { spec.Settles (spec.pushed self.old byte) self.old result self.new }
     {
-        self.resizable()?.push(byte)?;
-        Ok(())
+        self.add_behind([byte].as_slice())
     }
 
     /// Adds bytes at the end, as Python's `bytearray.extend(bytes)`.
@@ -196,8 +201,7 @@ impl PyByteArray {
     pub fn extend_from_slice(&mut self, bytes: &[u8]) -> Result<(), Halt>
         ensures { spec.Settles (spec.extended_by self.old bytes.now) self.old result self.new }
     {
-        self.resizable()?.extend_from_slice(bytes)?;
-        Ok(())
+        self.add_behind(bytes)
     }
 
     /// Puts a byte before the place that is nearest to an index, where a negative one counts from the end.
@@ -207,7 +211,8 @@ impl PyByteArray {
     pub fn insert_at(&mut self, index: isize, byte: u8) -> Result<(), Halt>
         ensures { spec.Settles (spec.inserted_at self.old index byte) self.old result self.new }
     {
-        put_before(self.resizable()?, index, byte)
+        let place = index.saturated_at(self.exporter.bytes().len());
+        self.put_before(place, [byte].as_slice())
     }
 
     /// Takes the byte that an index names out, where a negative one counts from the end. Takes no memory.
@@ -218,7 +223,9 @@ impl PyByteArray {
     pub fn remove_at(&mut self, index: isize) -> Result<u8, Halt>
         ensures { spec.SettlesAtOnce (spec.removed_at self.old index) self.old result self.new }
     {
-        Ok(take_named(self.resizable()?, index)?)
+        self.check_resizable()?;
+        let place = entry_in(self.exporter.bytes().len(), index)?;
+        Ok(self.take_out(place)?)
     }
 
     /// Takes the last byte out. It is None where there is none. Takes no memory.
@@ -228,7 +235,11 @@ impl PyByteArray {
     pub fn pop_last(&mut self) -> Result<Option<u8>, Halt>
         ensures { spec.SettlesAtOnce (spec.popped_last self.old) self.old result self.new }
     {
-        Ok(take_last(self.resizable()?))
+        self.check_resizable()?;
+        match (-1isize).wrapped_at(self.exporter.bytes().len()) {
+            None => Ok(None),
+            Some(place) => Ok(Some(self.take_out(place)?)),
+        }
     }
 
     /// Leaves so many bytes from the first on, and all where there are no more, as Python's `del a[count:]`. Takes no
@@ -239,20 +250,53 @@ impl PyByteArray {
     pub fn truncate(&mut self, count: usize) -> Result<(), Halt>
         ensures { spec.SettlesAtOnce (spec.truncated self.old count) self.old result self.new }
     {
-        self.resizable()?.truncate(count);
+        let end = self.exporter.bytes().len();
+        self.cut_out(count.min(end), end)?;
         Ok(())
     }
 
     /// Takes so many bytes from the first on out, and all where there are no more, as Python's `del a[:count]`. Takes
-    /// no memory: the bytes behind move once.
+    /// no memory, and no byte moves: what was taken out is left as room before the bytes.
     ///
     /// Refused with `BufferError` where a view is unreleased, also where no byte would go. Nothing is changed then.
     /// Example: `bytearray(b"abcdef")` by 2 is `bytearray(b"cdef")`.
     pub fn drain_front(&mut self, count: usize) -> Result<(), Halt>
         ensures { spec.SettlesAtOnce (spec.drained_front self.old count) self.old result self.new }
     {
-        take_front(self.resizable()?, count);
+        let end = self.exporter.bytes().len();
+        self.cut_out(0, count.min(end))?;
         Ok(())
+    }
+
+    /// Takes the first bytes out, so many, as a vector: a copy of them, or the bytearray's own memory where they are all
+    /// and no room lies before them. No other byte moves.
+    ///
+    /// Refused with `BufferError` where a view is unreleased, and then with `IndexError` where there are fewer bytes.
+    /// Nothing is changed then, nor where memory runs out.
+    /// Example: of `bytearray(b"abcdef")` the first two are `b"ab"`, and `bytearray(b"cdef")` is left.
+    pub fn take_front(&mut self, alloc: Global, count: usize) -> Result<Vec<u8>, Halt>
+        ensures { spec.Settles (spec.front_taken self.old count) self.old (result_map_both (λ front. front.items) (λ halt. halt) result) self.new }
+    {
+        self.check_resizable()?;
+        let bytes = self.exporter.bytes();
+        if bytes.len() < count {
+            return Err(Halt::Refused(Fault::Index));
+        }
+        let front = Vec::from_slice(alloc, &bytes[..count])?;
+        self.cut_out(0, count)?;
+        Ok(front)
+    }
+
+    /// The first bytes, so many, lent without a copy. It is None exactly where there are fewer. Takes no memory.
+    /// Example: of `bytearray(b"abc")` the first two are `Some(b"ab")`, and the first four None.
+    pub fn peek(&self, count: usize) -> Option<&[u8]>
+        ensures { MatchOption result (length self.now.bytes < count) (λ front. (count ≤ length self.now.bytes) × (front.now ≡ take count self.now.bytes)) }
+    {
+        let bytes = self.exporter.bytes();
+        if bytes.len() < count {
+            return None;
+        }
+        Some(&bytes[..count])
     }
 
     /// Takes bytes from the front out into a room, as many as there is room for. The result is how many. Takes no
@@ -264,10 +308,11 @@ impl PyByteArray {
         ensures settles { spec.SettlesAtOnce (queue.read_front self.old (length room.old)) self.old result self.new }
         ensures room { MatchResult result (λ count. room.new ≡ queue.filled_from self.old room.old count) (λ _. room.new ≡ room.old) }
     {
-        let bytes = self.resizable()?;
+        self.check_resizable()?;
+        let bytes = self.exporter.bytes();
         let count = room.len().min(bytes.len());
         room[..count].copy_from_slice(&bytes[..count]);
-        take_front(bytes, count);
+        self.cut_out(0, count)?;
         Ok(count)
     }
 
@@ -278,7 +323,7 @@ impl PyByteArray {
     pub(crate) fn write_behind(&mut self, bytes: &[u8]) -> Result<usize, Halt>
         ensures { spec.Settles (queue.written_behind self.old bytes.now) self.old result self.new }
     {
-        self.resizable()?.extend_from_slice(bytes)?;
+        self.add_behind(bytes)?;
         Ok(bytes.len())
     }
 
@@ -289,7 +334,8 @@ impl PyByteArray {
     pub fn clear_all(&mut self) -> Result<(), Halt>
         ensures { spec.SettlesAtOnce (spec.emptied self.old) self.old result self.new }
     {
-        self.resizable()?.clear();
+        let end = self.exporter.bytes().len();
+        self.cut_out(0, end)?;
         Ok(())
     }
 

@@ -1,19 +1,23 @@
 //! The traits of Rust's library that bytes and bytearrays have.
-ghost use Rattle.std.specs.Prelude.{◌≡◌, ℕ, length, IsOk, MatchResult, Some};
-ghost use Rattle.std.specs.Io.{ReadsAtMost, WritesAtMost};
+ghost use Rattle.std.specs.Prelude.{◌≡◌, ◌↔◌, ℕ, [], length, IsOk, IfOk, MatchResult, Some};
+ghost use Rattle.std.specs.Borrow.{sem};
+ghost use Rattle.std.specs.Io.BufRead.{Rests, FillKeeps, DropsConsumable};
+ghost use Rattle.std.specs.Io.{ReadsAtMost, WritesAtMost, StartsWith};
 ghost use Rattle.std.specs.Io.KnownBytes.{ReadConsumes, WriteAppends};
 ghost use Rattle.std.specs.IoError.{error_kind};
 ghost use Rattle.std.specs.Iterator.Runs.{EveryRun, ItemsMapTo};
 ghost use Rattle.std.specs.Slice.Iter.{iter_rest, iter_steps};
 ghost use Rattle.pybuf_command.specs.declared.kinds.ExporterKind.TheVariants as kinds;
 ghost use Rattle.pybuf_state.specs.Exporter.{new_exporter};
+ghost use Rattle.pybuf_object.specs.Plain.{may_resize};
 ghost use Rattle.pybuf_object.specs.Queue as queue;
+ghost use Rattle.pybuf_object.specs.contracts.byte_array.PyByteArray as byte_array;
 
 use crate::byte_array::PyByteArray;
 use crate::bytes::PyBytes;
 use pybuf_value::Halt;
 use std::convert::AsSlice;
-use std::io::{Error, ErrorKind, Read, Write};
+use std::io::{BufRead, Error, ErrorKind, Read, Write};
 use std::ops::DerefSlice;
 use std::{io, slice};
 
@@ -128,6 +132,36 @@ impl Read for PyByteArray {
             Ok(count) => Ok(count),
             Err(halt) => Err(error_of(halt)),
         }
+    }
+}
+
+/// A queue whose front is lent: `fill_buf` lends all bytes without a copy, and `consume` takes the first out. So it has
+/// `read_until`, `read_line` and `lines`.
+///
+/// `fill_buf` is refused with `ResourceBusy` exactly while a view is unreleased, or where another kind of exporter was put
+/// in. `consume` takes nothing out then, and all bytes where there are fewer.
+impl BufRead for PyByteArray {
+    ghost consumable_len = { λ b. Some (queue.consumable b) };
+
+    fn fill_buf(&mut self) -> io::Result<&[u8]>
+        ensures front { IfOk result (λ s. StartsWith self.old.bytes s.now) }
+        ensures end { IfOk result (λ s. length s.now ≡ 0 → self.old.bytes ≡ []) }
+        ensures* after_borrow { sem 𝓛 (Rests byte_array.the_row self.entry (λ new.
+            FillKeeps (Some self.old.bytes) (Some new.bytes) (Some (queue.consumable new)) result)) }
+        ensures value { MatchResult result (λ s. s.now ≡ self.old.bytes) (λ error. error_kind error ≡ ErrorKind.ResourceBusy) }
+        ensures exact { IsOk result ↔ IsOk (may_resize self.old) }
+    {
+        if let Err(fault) = self.check_resizable() {
+            return Err(error_of(Halt::Refused(fault)));
+        }
+        Ok(PyByteArray::as_slice(self))
+    }
+
+    fn consume(&mut self, amount: usize)
+        ensures bytes { DropsConsumable (Some self.old.bytes) (Some self.new.bytes) (Some (queue.consumable self.old)) amount }
+        ensures rest { self.new ≡ queue.consumed self.old amount }
+    {
+        let _ = self.drain_front(amount);
     }
 }
 

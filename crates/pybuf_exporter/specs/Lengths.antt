@@ -1,0 +1,21 @@
+-- Calls that give an exporter another number of bytes.
+use Rattle.std.specs.Prelude.{◌≡◌, ℕ, List, true, Result, Ok, Err}
+use Rattle.pybuf_value.specs.declared.faults.Fault.{Fault}
+use Rattle.pybuf_value.specs.declared.halt.Halt.{Halt}
+use Rattle.pybuf_value.specs.declared.halt.Halt.TheVariants as halt
+use Rattle.pybuf_state.specs.Exporter.{Exporter}
+use Rattle.pybuf_state.specs.Resizing.{resizable}
+use Rattle.pybuf_exporter.specs.Stored.{StoredExporter}
+
+-- The exporter has these bytes afterwards, and all else of it is as before. Where the call is refused, or memory runs
+-- out, exporter and room are as before. It is refused exactly while a view is unreleased, with `BufferError`, and
+-- memory runs out only where it isn't refused.
+abbrev pub TakesBytes : StoredExporter → List ℕ → Result (Unit {0}) Halt → StoredExporter → Type 0
+TakesBytes old bytes (Ok _) new = (resizable old.exporter ≡ Ok true) × (new.exporter ≡ record old.exporter { bytes = bytes })
+TakesBytes old bytes (Err (halt.Refused f)) new = (resizable old.exporter ≡ Err f) × (new ≡ old)
+TakesBytes old bytes (Err halt.NoMemory) new = (resizable old.exporter ≡ Ok true) × (new ≡ old)
+
+-- the same of a call that takes no memory
+abbrev pub TakesBytesAtOnce : StoredExporter → List ℕ → Result (Unit {0}) Fault → StoredExporter → Type 0
+TakesBytesAtOnce old bytes (Ok _) new = (resizable old.exporter ≡ Ok true) × (new.exporter ≡ record old.exporter { bytes = bytes })
+TakesBytesAtOnce old bytes (Err f) new = (resizable old.exporter ≡ Err f) × (new ≡ old)

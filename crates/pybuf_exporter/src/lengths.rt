@@ -1,0 +1,204 @@
+//! Calls by plain arguments that change the number of bytes: each makes no value, no loan and no reply. They write the
+//! bytes where the commands write them, behind the free room.
+ghost use Rattle.std.specs.Prelude.{◌≡◌, ◌≤◌, ◌+◌, ◌++◌, [], length, true, false, Ok, Err, OnOk, OnErr, MatchResult};
+ghost use Rattle.pybuf_command.specs.Kinds.{holds_readonly};
+ghost use Rattle.pybuf_slice.specs.Edits.{replaced_range};
+ghost use Rattle.pybuf_slice.specs.FrontContent.{IsSpare};
+ghost use Rattle.pybuf_state.specs.Answers.{IsWhole};
+ghost use Rattle.pybuf_state.specs.Resizing.{resizable};
+ghost use Rattle.pybuf_exporter.specs.Stored.{stored_of};
+ghost use Rattle.pybuf_exporter.specs.Lengths as spec;
+
+use crate::exporter::ExporterState;
+use pybuf_state::{Parts, resizing_keeps};
+use pybuf_value::{Fault, Halt, Steps};
+use std::marker::Brand;
+use std::sync::ledger::{Blank, Ledger};
+
+fn append_by<L: Ledger>(parts: &mut Parts, bytes: &[u8], blank: Blank) -> Result<(), Halt>
+    requires whole { IsWhole parts.old }
+    requires name { blank.name ≡ L.name }
+    requires parts { blank.parts ≡ L.parts }
+    requires one { blank.parts ≡ 1 }
+    ensures answer { spec.TakesBytes (stored_of parts.old) (parts.old.bytes.items ++ bytes.now) result (stored_of parts.new) }
+    ensures exports { parts.new.exports ≡ parts.old.exports }
+{
+    let mut moved = Steps::<L>::new(blank);
+    append_counted(parts, bytes, &mut moved)
+}
+
+/// Adds bytes at the end of an exporter's bytes, with a counter of the bytes that move.
+fn append_counted<L: Ledger>(
+    parts: &mut Parts,
+    bytes: &[u8],
+    moved: &mut Steps<L>,
+) -> Result<(), Halt>
+    requires { IsWhole parts.old }
+    ensures answer { spec.TakesBytes (stored_of parts.old) (parts.old.bytes.items ++ bytes.now) result (stored_of parts.new) }
+    ensures exports { parts.new.exports ≡ parts.old.exports }
+    ensures counter { OnOk result (moved.new + parts.new.bytes.room ≤ moved.old + parts.old.bytes.room) }
+    ensures spare { OnOk result (IsSpare parts.new.bytes) }
+    ensures err_counter { OnErr result (moved.new ≡ moved.old) }
+{
+    parts.resizable()?;
+    parts.append(bytes, moved)?;
+    Ok(())
+}
+
+fn replace_by<L: Ledger>(
+    parts: &mut Parts,
+    start: usize,
+    end: usize,
+    bytes: &[u8],
+    blank: Blank,
+) -> Result<(), Halt>
+    requires whole { IsWhole parts.old }
+    requires ordered { start ≤ end }
+    requires inside { end ≤ length parts.old.bytes.items }
+    requires name { blank.name ≡ L.name }
+    requires parts { blank.parts ≡ L.parts }
+    requires one { blank.parts ≡ 1 }
+    ensures answer { spec.TakesBytes (stored_of parts.old) (replaced_range parts.old.bytes.items start end bytes.now) result (stored_of parts.new) }
+    ensures exports { parts.new.exports ≡ parts.old.exports }
+{
+    let mut moved = Steps::<L>::new(blank);
+    parts.resizable()?;
+    parts.replace_range(start, end, bytes, &mut moved)?;
+    Ok(())
+}
+
+/// Takes out the bytes from one place up to another, with a counter of the bytes that move.
+fn remove_counted<L: Ledger>(
+    parts: &mut Parts,
+    start: usize,
+    end: usize,
+    moved: &mut Steps<L>,
+) -> Result<(), Fault>
+    requires whole { IsWhole parts.old }
+    requires ordered { start ≤ end }
+    requires inside { end ≤ length parts.old.bytes.items }
+    ensures answer { spec.TakesBytesAtOnce (stored_of parts.old) (replaced_range parts.old.bytes.items start end []) result (stored_of parts.new) }
+    ensures exports { parts.new.exports ≡ parts.old.exports }
+    ensures front_room { start ≡ 0 → OnOk result (parts.new.bytes.room ≡ parts.old.bytes.room + end) }
+    ensures front_counter { start ≡ 0 → moved.new ≡ moved.old }
+    ensures err_counter { OnErr result (moved.new ≡ moved.old) }
+{
+    parts.resizable()?;
+    parts.remove_range(start, end, moved);
+    Ok(())
+}
+
+fn remove_by<L: Ledger>(
+    parts: &mut Parts,
+    start: usize,
+    end: usize,
+    blank: Blank,
+) -> Result<(), Fault>
+    requires whole { IsWhole parts.old }
+    requires ordered { start ≤ end }
+    requires inside { end ≤ length parts.old.bytes.items }
+    requires name { blank.name ≡ L.name }
+    requires parts { blank.parts ≡ L.parts }
+    requires one { blank.parts ≡ 1 }
+    ensures answer { spec.TakesBytesAtOnce (stored_of parts.old) (replaced_range parts.old.bytes.items start end []) result (stored_of parts.new) }
+    ensures exports { parts.new.exports ≡ parts.old.exports }
+{
+    let mut moved = Steps::<L>::new(blank);
+    remove_counted(parts, start, end, &mut moved)
+}
+
+impl ExporterState {
+    /// Adds bytes at the end. Where as much room lies before the bytes as there are bytes, they are first moved to the
+    /// start; else none moves.
+    ///
+    /// Refused with `BufferError` exactly where a view is unreleased, also for no bytes. Nothing is changed then, nor
+    /// where memory runs out.
+    /// Example: to the exporter of `bytearray(b"ab")` the bytes `b"cd"` make `b"abcd"`.
+    pub fn append_bytes(&mut self, bytes: &[u8]) -> Result<(), Halt>
+        requires { holds_readonly self.old.exporter.kind ≡ false }
+        ensures { spec.TakesBytes self.old (self.old.exporter.bytes ++ bytes.now) result self.new }
+    {
+        resizing_keeps();
+        append_by::<Brand>(&mut self.parts, bytes, Blank::new(1))
+    }
+
+    /// Adds bytes at the end, as `append_bytes` does, with a counter of the bytes that it moves to another place within.
+    /// Each byte that is moved uses up a byte of the room before the bytes.
+    ///
+    /// Refused with `BufferError` exactly where a view is unreleased. Nothing is changed then, nor where memory runs
+    /// out, and nothing is counted.
+    /// Example: to `b"d"` behind a room of three bytes the byte 101 moves one byte, and leaves no room.
+    pub fn append_bytes_counted<L: Ledger>(
+        &mut self,
+        bytes: &[u8],
+        moved: &mut Steps<L>,
+    ) -> Result<(), Halt>
+        requires { holds_readonly self.old.exporter.kind ≡ false }
+        ensures answer { spec.TakesBytes self.old (self.old.exporter.bytes ++ bytes.now) result self.new }
+        ensures counter { OnOk result (moved.new + self.new.room ≤ moved.old + self.old.room) }
+        ensures err_counter { OnErr result (moved.new ≡ moved.old) }
+    {
+        resizing_keeps();
+        append_counted(&mut self.parts, bytes, moved)
+    }
+
+    /// Puts other bytes in place of those from one place up to another, as many as there are. The bytes behind move
+    /// once, where the number of bytes changes.
+    ///
+    /// Refused with `BufferError` exactly where a view is unreleased. Nothing is changed then, nor where memory runs out.
+    /// Example: in `b"abcdef"` the bytes `b"XY"` in place of those from 1 up to 4 make `b"aXYef"`.
+    pub fn replace_bytes(&mut self, start: usize, end: usize, bytes: &[u8]) -> Result<(), Halt>
+        requires writable { holds_readonly self.old.exporter.kind ≡ false }
+        requires ordered { start ≤ end }
+        requires inside { end ≤ length self.old.exporter.bytes }
+        ensures { spec.TakesBytes self.old (replaced_range self.old.exporter.bytes start end bytes.now) result self.new }
+    {
+        resizing_keeps();
+        replace_by::<Brand>(&mut self.parts, start, end, bytes, Blank::new(1))
+    }
+
+    /// Takes out the bytes from one place up to another. Those at the front leave room, and none moves; else the bytes
+    /// behind move once. Takes no memory.
+    ///
+    /// Refused with `BufferError` exactly where a view is unreleased. Nothing is changed then.
+    /// Example: from `b"abcdef"` those from 1 up to 4 leave `b"aef"`.
+    pub fn remove_bytes(&mut self, start: usize, end: usize) -> Result<(), Fault>
+        requires writable { holds_readonly self.old.exporter.kind ≡ false }
+        requires ordered { start ≤ end }
+        requires inside { end ≤ length self.old.exporter.bytes }
+        ensures { spec.TakesBytesAtOnce self.old (replaced_range self.old.exporter.bytes start end []) result self.new }
+    {
+        resizing_keeps();
+        remove_by::<Brand>(&mut self.parts, start, end, Blank::new(1))
+    }
+
+    /// Takes out so many of the first bytes, as `remove_bytes` does, with a counter of the bytes that it moves: none.
+    /// They leave as much room before the bytes. Takes no memory.
+    ///
+    /// Refused with `BufferError` exactly where a view is unreleased. Nothing is changed then.
+    /// Example: the first two of `b"abcd"` leave `b"cd"` behind a room of two bytes more.
+    pub fn remove_front_counted<L: Ledger>(
+        &mut self,
+        count: usize,
+        moved: &mut Steps<L>,
+    ) -> Result<(), Fault>
+        requires writable { holds_readonly self.old.exporter.kind ≡ false }
+        requires inside { count ≤ length self.old.exporter.bytes }
+        ensures answer { spec.TakesBytesAtOnce self.old (replaced_range self.old.exporter.bytes 0 count []) result self.new }
+        ensures room { OnOk result (self.new.room ≡ self.old.room + count) }
+        ensures counter { moved.new ≡ moved.old }
+    {
+        resizing_keeps();
+        remove_counted(&mut self.parts, 0, count, moved)
+    }
+
+    /// Whether the number of bytes may change. Takes no memory.
+    ///
+    /// Refused with `BufferError` exactly where a view is unreleased.
+    /// Example: of an exporter without views it is `Ok(())`.
+    pub fn check_resizable(&self) -> Result<(), Fault>
+        ensures { MatchResult result (λ _. resizable self.now.exporter ≡ Ok true) (λ fault. resizable self.now.exporter ≡ Err fault) }
+    {
+        self.parts.resizable()
+    }
+}
