@@ -5,7 +5,9 @@ use Rattle.pybuf_value.specs.declared.halt.Halt.{Halt}
 use Rattle.pybuf_value.specs.declared.halt.Halt.TheVariants as halt
 use Rattle.pybuf_state.specs.Exporter.{Exporter}
 use Rattle.pybuf_state.specs.Resizing.{resizable}
-use Rattle.pybuf_exporter.specs.Stored.{StoredExporter}
+use Rattle.pybuf_slice.specs.Edits.{replaced_range}
+use Rattle.pybuf_state.specs.declared.parts.Parts.{Parts}
+use Rattle.pybuf_exporter.specs.Stored.{StoredExporter, stored_of}
 
 -- The exporter has these bytes afterwards, and all else of it is as before. Where the call is refused, or memory runs
 -- out, exporter and room are as before. It is refused exactly while a view is unreleased, with `BufferError`, and
@@ -19,3 +21,17 @@ TakesBytes old bytes (Err halt.NoMemory) new = (resizable old.exporter ≡ Ok tr
 abbrev pub TakesBytesAtOnce : StoredExporter → List ℕ → Result (Unit {0}) Fault → StoredExporter → Type 0
 TakesBytesAtOnce old bytes (Ok _) new = (resizable old.exporter ≡ Ok true) × (new.exporter ≡ record old.exporter { bytes = bytes })
 TakesBytesAtOnce old bytes (Err f) new = (resizable old.exporter ≡ Err f) × (new ≡ old)
+
+-- ---- the same of the parts that are kept
+
+abbrev pub TakesIn : Parts → List ℕ → Result (Unit {0}) Halt → Parts → Type 0
+TakesIn old bytes result new = TakesBytes (stored_of old) bytes result (stored_of new)
+
+abbrev pub TakesInAtOnce : Parts → List ℕ → Result (Unit {0}) Fault → Parts → Type 0
+TakesInAtOnce old bytes result new = TakesBytesAtOnce (stored_of old) bytes result (stored_of new)
+
+-- ---- what the bytes are afterwards
+
+-- Other bytes, of any number, stand in place of those from one place up to another.
+abbrev pub replaced : StoredExporter → ℕ → ℕ → List ℕ → List ℕ
+replaced s start end others = replaced_range s.exporter.bytes start end others

@@ -1,5 +1,5 @@
 //! One exporter with its views and iterators.
-ghost use Rattle.std.specs.Prelude.{◌≡◌, ◌<◌, ◌↔◌, [], Some, IfOk, IfSome, IsSome, IsSomeAnd, IsOk, IfErr, OnErr, MatchResult, MatchOption, true, false, length, slice_get};
+ghost use Rattle.std.specs.Prelude.{◌≡◌, ◌<◌, ◌↔◌, [], Some, IfOk, IfSome, IsSome, IsSomeAnd, IsOk, IfErr, OnErr, MatchOption, true, false, length, slice_get};
 
 use crate::closing::closed;
 use crate::copying::{copy_of_reply, twice};
@@ -65,6 +65,7 @@ impl ExporterState {
     ghost use Rattle.pybuf_desc.specs.Valid.{IsValid};
     ghost use Rattle.std.specs.Prelude.{Ok, Err};
     ghost use Rattle.pybuf_value.specs.Snaps.{content_of, content_of_named};
+    ghost use Rattle.pybuf_value.specs.Halting.{GivesLent};
     ghost use Rattle.pybuf_value.specs.Lent.{Lends, kind_of_named};
     ghost use Rattle.pybuf_exporter.specs.Stepping.{StateStepsBy, StepsByNames, CarriesOut, CarriesOutTwice, OwningChangesNothing};
     ghost use Rattle.pybuf_exporter.specs.Stored.{new_stored};
@@ -423,7 +424,7 @@ impl ExporterState {
     /// `TypeError` for a view whose items don't lie one after another and for an iterator.
     /// Example: of `Subject::Own` of `b"abc"` it is `Ok(b"abc")`, and of the view `memoryview(b"abc")[::2]` `Err(Fault::Kind)`.
     pub fn run_of(&self, subject: Subject) -> Result<&[u8], Fault>
-        ensures { MatchResult result (λ bytes. content_of (snap_of_subject self.now.exporter subject) ≡ Ok bytes.now) (λ fault. content_of (snap_of_subject self.now.exporter subject) ≡ Err fault) }
+        ensures { GivesLent (content_of (snap_of_subject self.now.exporter subject)) result }
     {
         run_of_subject(&self.parts, subject)
     }

@@ -1,12 +1,12 @@
 //! Calls by plain arguments that change the number of bytes: each makes no value, no loan and no reply. They write the
 //! bytes where the commands write them, behind the free room.
-ghost use Rattle.std.specs.Prelude.{◌≡◌, ◌≤◌, ◌+◌, ◌++◌, [], length, true, false, Ok, Err, OnOk, OnErr, MatchResult};
+ghost use Rattle.std.specs.Prelude.{◌≡◌, ◌≤◌, ◌+◌, ◌++◌, [], length, true, false, OnOk, OnErr};
+ghost use Rattle.pybuf_value.specs.Halting.{AnsweredAtOnce};
 ghost use Rattle.pybuf_command.specs.Kinds.{holds_readonly};
 ghost use Rattle.pybuf_slice.specs.Edits.{replaced_range};
 ghost use Rattle.pybuf_slice.specs.FrontContent.{IsSpare};
 ghost use Rattle.pybuf_state.specs.Answers.{IsWhole};
 ghost use Rattle.pybuf_state.specs.Resizing.{resizable};
-ghost use Rattle.pybuf_exporter.specs.Stored.{stored_of};
 ghost use Rattle.pybuf_exporter.specs.Lengths as spec;
 
 use crate::exporter::ExporterState;
@@ -20,7 +20,7 @@ fn append_by<L: Ledger>(parts: &mut Parts, bytes: &[u8], blank: Blank) -> Result
     requires name { blank.name ≡ L.name }
     requires parts { blank.parts ≡ L.parts }
     requires one { blank.parts ≡ 1 }
-    ensures answer { spec.TakesBytes (stored_of parts.old) (parts.old.bytes.items ++ bytes.now) result (stored_of parts.new) }
+    ensures answer { spec.TakesIn parts.old (parts.old.bytes.items ++ bytes.now) result parts.new }
     ensures exports { parts.new.exports ≡ parts.old.exports }
 {
     let mut moved = Steps::<L>::new(blank);
@@ -34,7 +34,7 @@ fn append_counted<L: Ledger>(
     moved: &mut Steps<L>,
 ) -> Result<(), Halt>
     requires { IsWhole parts.old }
-    ensures answer { spec.TakesBytes (stored_of parts.old) (parts.old.bytes.items ++ bytes.now) result (stored_of parts.new) }
+    ensures answer { spec.TakesIn parts.old (parts.old.bytes.items ++ bytes.now) result parts.new }
     ensures exports { parts.new.exports ≡ parts.old.exports }
     ensures counter { OnOk result (moved.new + parts.new.bytes.room ≤ moved.old + parts.old.bytes.room) }
     ensures spare { OnOk result (IsSpare parts.new.bytes) }
@@ -58,7 +58,7 @@ fn replace_by<L: Ledger>(
     requires name { blank.name ≡ L.name }
     requires parts { blank.parts ≡ L.parts }
     requires one { blank.parts ≡ 1 }
-    ensures answer { spec.TakesBytes (stored_of parts.old) (replaced_range parts.old.bytes.items start end bytes.now) result (stored_of parts.new) }
+    ensures answer { spec.TakesIn parts.old (replaced_range parts.old.bytes.items start end bytes.now) result parts.new }
     ensures exports { parts.new.exports ≡ parts.old.exports }
 {
     let mut moved = Steps::<L>::new(blank);
@@ -77,7 +77,7 @@ fn remove_counted<L: Ledger>(
     requires whole { IsWhole parts.old }
     requires ordered { start ≤ end }
     requires inside { end ≤ length parts.old.bytes.items }
-    ensures answer { spec.TakesBytesAtOnce (stored_of parts.old) (replaced_range parts.old.bytes.items start end []) result (stored_of parts.new) }
+    ensures answer { spec.TakesInAtOnce parts.old (replaced_range parts.old.bytes.items start end []) result parts.new }
     ensures exports { parts.new.exports ≡ parts.old.exports }
     ensures front_room { start ≡ 0 → OnOk result (parts.new.bytes.room ≡ parts.old.bytes.room + end) }
     ensures front_counter { start ≡ 0 → moved.new ≡ moved.old }
@@ -100,7 +100,7 @@ fn remove_by<L: Ledger>(
     requires name { blank.name ≡ L.name }
     requires parts { blank.parts ≡ L.parts }
     requires one { blank.parts ≡ 1 }
-    ensures answer { spec.TakesBytesAtOnce (stored_of parts.old) (replaced_range parts.old.bytes.items start end []) result (stored_of parts.new) }
+    ensures answer { spec.TakesInAtOnce parts.old (replaced_range parts.old.bytes.items start end []) result parts.new }
     ensures exports { parts.new.exports ≡ parts.old.exports }
 {
     let mut moved = Steps::<L>::new(blank);
@@ -151,7 +151,7 @@ impl ExporterState {
         requires writable { holds_readonly self.old.exporter.kind ≡ false }
         requires ordered { start ≤ end }
         requires inside { end ≤ length self.old.exporter.bytes }
-        ensures { spec.TakesBytes self.old (replaced_range self.old.exporter.bytes start end bytes.now) result self.new }
+        ensures { spec.TakesBytes self.old (spec.replaced self.old start end bytes.now) result self.new }
     {
         resizing_keeps();
         replace_by::<Brand>(&mut self.parts, start, end, bytes, Blank::new(1))
@@ -166,7 +166,7 @@ impl ExporterState {
         requires writable { holds_readonly self.old.exporter.kind ≡ false }
         requires ordered { start ≤ end }
         requires inside { end ≤ length self.old.exporter.bytes }
-        ensures { spec.TakesBytesAtOnce self.old (replaced_range self.old.exporter.bytes start end []) result self.new }
+        ensures { spec.TakesBytesAtOnce self.old (spec.replaced self.old start end []) result self.new }
     {
         resizing_keeps();
         remove_by::<Brand>(&mut self.parts, start, end, Blank::new(1))
@@ -184,7 +184,7 @@ impl ExporterState {
     ) -> Result<(), Fault>
         requires writable { holds_readonly self.old.exporter.kind ≡ false }
         requires inside { count ≤ length self.old.exporter.bytes }
-        ensures answer { spec.TakesBytesAtOnce self.old (replaced_range self.old.exporter.bytes 0 count []) result self.new }
+        ensures answer { spec.TakesBytesAtOnce self.old (spec.replaced self.old 0 count []) result self.new }
         ensures room { OnOk result (self.new.room ≡ self.old.room + count) }
         ensures counter { moved.new ≡ moved.old }
     {
@@ -197,7 +197,7 @@ impl ExporterState {
     /// Refused with `BufferError` exactly where a view is unreleased.
     /// Example: of an exporter without views it is `Ok(())`.
     pub fn check_resizable(&self) -> Result<(), Fault>
-        ensures { MatchResult result (λ _. resizable self.now.exporter ≡ Ok true) (λ fault. resizable self.now.exporter ≡ Err fault) }
+        ensures { AnsweredAtOnce result (λ _. true) (resizable self.now.exporter) }
     {
         self.parts.resizable()
     }

@@ -1,6 +1,8 @@
 -- Calls on bytes and bytearrays with plain arguments. They have no values, no loans and no replies.
-use Rattle.std.specs.Prelude.{◌≡◌, IsOk, ℕ, suc, Bool, ℤ, negsuc, List, [], ◌∷◌, ◌++◌, length, take, drop, nat_lt, slice_get, slice_index, slice_set, Option, None, Some, Result, Ok, Err}
+use Rattle.std.specs.Prelude.{◌≡◌, ◌<◌, ◌≤◌, IsOk, MatchOption, ℕ, suc, Bool, ℤ, negsuc, List, [], ◌∷◌, ◌++◌, length, take, drop, nat_lt, slice_get, slice_index, slice_set, Option, None, Some, Result, Ok, Err}
+use Rattle.std.specs.Borrow.{Bor}
 use Rattle.std.specs.Option.{option_and_then}
+use Rattle.std.specs.Result.{result_map_both}
 use Rattle.std.specs.Global.{Vec}
 use Rattle.pybuf_value.specs.declared.faults.Fault.{Fault}
 use Rattle.pybuf_value.specs.declared.halt.Halt.{Halt}
@@ -28,6 +30,10 @@ Settles wanted old result new = Settled result (λ x. (new, x)) (new ≡ old) (I
 abbrev pub SettlesAtOnce : {X : Type 0} → Result (Exporter × X) Fault → Exporter → Result X Halt → Exporter → Type 0
 SettlesAtOnce wanted old result new = Settled result (λ x. (new, x)) (new ≡ old) ⊥ wanted
 
+-- the same of a call that gives a vector of bytes
+abbrev pub SettlesBytes : Result (Exporter × List ℕ) Fault → Exporter → Result (Vec ℕ) Halt → Exporter → Type 0
+SettlesBytes wanted old result new = Settles wanted old (result_map_both (λ bytes. bytes.items) (λ halt. halt) result) new
+
 -- the same of a call that answers with a fault alone
 abbrev pub SettlesFault : {X : Type 0} → Result (Exporter × X) Fault → Exporter → Result X Fault → Exporter → Type 0
 SettlesFault wanted old (Ok x) new = wanted ≡ Ok (new, x)
@@ -42,6 +48,10 @@ GivesBytes wanted result = Answered result (λ bytes. bytes.items) wanted
 -- the byte that a number names, if there is one, and a negative number counts from the end
 abbrev pub byte_at : List ℕ → ℤ → Option ℕ
 byte_at bytes index = option_and_then (slice_get bytes) (item_place (length bytes) index)
+
+-- The first bytes are lent, as many as are asked for, and None stands where there are fewer.
+abbrev pub LendsFront : List ℕ → ℕ → Option (Bor (List ℕ)) → Type 0
+LendsFront bytes count result = MatchOption result (length bytes < count) (λ front. (count ≤ length bytes) × (front.now ≡ take count bytes))
 
 -- the bytes that a slice picks
 abbrev pub bytes_of_slice : List ℕ → Option ℤ → Option ℤ → Option ℤ → Result (List ℕ) Fault

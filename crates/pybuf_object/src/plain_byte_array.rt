@@ -1,7 +1,7 @@
 //! `PyByteArray` by plain arguments: each call makes no value, no loan and no reply.
 ghost use Rattle.std.specs.Prelude.{◌≡◌, ◌==◌, ◌<◌, ◌≤◌, [], length, take, slice_set, true, Ok, Err, IfOk, IsSomeAnd, MatchOption, MatchResult};
 ghost use Rattle.std.specs.Borrow.{sem};
-ghost use Rattle.std.specs.Result.{result_map_both};
+ghost use Rattle.pybuf_value.specs.Halting.{AnsweredAtOnce};
 ghost use Rattle.pybuf_command.specs.declared.kinds.ExporterKind.TheVariants as kinds;
 ghost use Rattle.pybuf_state.specs.Exporter.{new_exporter};
 ghost use Rattle.pybuf_index.specs.Places.{item_place, entry_in};
@@ -119,7 +119,7 @@ impl PyByteArray {
     fn resizable(&mut self) -> Result<&mut Vec<u8>, Fault>
         ensures* writes_back { sem 𝓛 (LendsAllIfOk self.entry result) }
         ensures value { IfOk result (λ bytes. bytes.now.items ≡ self.old.bytes) }
-        ensures exact { MatchResult result (λ _. spec.may_resize self.old ≡ Ok true) (λ fault. spec.may_resize self.old ≡ Err fault) }
+        ensures exact { AnsweredAtOnce result (λ _. true) (spec.may_resize self.old) }
     {
         match self.exporter.kind() {
             ExporterKind::ByteArray => self.exporter.resizable(),
@@ -132,7 +132,7 @@ impl PyByteArray {
     /// Refused with `UnknownName` where another kind of exporter was put in, and with `BufferError` where a view is
     /// unreleased.
     pub(crate) fn check_resizable(&self) -> Result<(), Fault>
-        ensures { MatchResult result (λ _. spec.may_resize self.now ≡ Ok true) (λ fault. spec.may_resize self.now ≡ Err fault) }
+        ensures { AnsweredAtOnce result (λ _. true) (spec.may_resize self.now) }
     {
         match self.exporter.kind() {
             ExporterKind::ByteArray => self.exporter.check_resizable(),
@@ -275,7 +275,7 @@ impl PyByteArray {
     /// Nothing is changed then, nor where memory runs out.
     /// Example: of `bytearray(b"abcdef")` the first two are `b"ab"`, and `bytearray(b"cdef")` is left.
     pub fn take_front(&mut self, alloc: Global, count: usize) -> Result<Vec<u8>, Halt>
-        ensures { spec.Settles (spec.front_taken self.old count) self.old (result_map_both (λ front. front.items) (λ halt. halt) result) self.new }
+        ensures { spec.SettlesBytes (spec.front_taken self.old count) self.old result self.new }
     {
         self.check_resizable()?;
         let bytes = self.exporter.bytes();
@@ -290,7 +290,7 @@ impl PyByteArray {
     /// The first bytes, so many, lent without a copy. It is None exactly where there are fewer. Takes no memory.
     /// Example: of `bytearray(b"abc")` the first two are `Some(b"ab")`, and the first four None.
     pub fn peek(&self, count: usize) -> Option<&[u8]>
-        ensures { MatchOption result (length self.now.bytes < count) (λ front. (count ≤ length self.now.bytes) × (front.now ≡ take count self.now.bytes)) }
+        ensures { spec.LendsFront self.now.bytes count result }
     {
         let bytes = self.exporter.bytes();
         if bytes.len() < count {

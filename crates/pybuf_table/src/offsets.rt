@@ -1,6 +1,7 @@
 //! One record at an offset of bytes.
-ghost use Rattle.std.specs.Prelude.{◌≡◌, Ok, Err, IfOk, OnErr, MatchResult};
+ghost use Rattle.std.specs.Prelude.{◌≡◌, IfOk, OnErr};
 ghost use Rattle.pybuf_value.specs.Halting.{outcome_of, Gives};
+ghost use Rattle.pybuf_state.specs.Answers.{ChangesTo};
 ghost use Rattle.pybuf_table.specs.Offsets.{place_of, row_from, with_record};
 
 use crate::records::Records;
@@ -54,7 +55,7 @@ impl Records {
         args: &ScalarList,
         lender: &L,
     ) -> Result<(), Fault>
-        ensures ok { MatchResult result (λ _. with_record self.now.format (L.pairs lender.now) args.now offset room.old ≡ Ok room.new) (λ fault. with_record self.now.format (L.pairs lender.now) args.now offset room.old ≡ Err fault) }
+        ensures ok { ChangesTo (with_record self.now.format (L.pairs lender.now) args.now offset room.old) result room.new }
         ensures err { OnErr result (room.new ≡ room.old) }
     {
         let place = place_of(room.len(), offset)?;

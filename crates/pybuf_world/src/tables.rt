@@ -2,7 +2,7 @@
 ghost use Rattle.std.specs.Prelude.{◌≡◌, ◌<◌, ◌+◌, ◌++◌, [], ◌∷◌, slice_get, slice_index, length, IfOk, OnOk, OnErr, vec_len, vec_capacity};
 ghost use Rattle.std.specs.Prelude.{true, false};
 ghost use Rattle.pybuf_world.specs.World.{has_view, GivesOrRefuses};
-ghost use Rattle.pybuf_value.specs.Halting.{outcome_of};
+ghost use Rattle.pybuf_value.specs.Halting.{outcome_of, GivesOutcome};
 ghost use Rattle.pybuf_value.specs.Snaps.{content_of_named};
 ghost use Rattle.pybuf_bytes.specs.Options.{bytes_of_options};
 ghost use Rattle.pybuf_world.specs.Tables.{OwnersFollow, GainsOwner, with_copy_of};
@@ -53,7 +53,7 @@ fn content_of(snap: Option<Snap>) -> Outcome<ByteList>
 
 /// The bytes of options of which no handle is read.
 fn bytes_without_handles(alloc: Global, options: &ByteInnerNewOptions) -> Tried<ByteList>
-    ensures { IfOk result (λ outcome. outcome ≡ outcome_of (bytes_of_options [] options.now.source options.now.encoding options.now.errors)) }
+    ensures { GivesOutcome (bytes_of_options [] options.now.source options.now.encoding options.now.errors) result }
 {
     let nothing = SnapList::new(alloc);
     match options.get_bytes(alloc, &nothing)? {
