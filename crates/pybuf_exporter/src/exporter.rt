@@ -63,7 +63,6 @@ impl ExporterState {
     ghost use Rattle.pybuf_state.specs.Sound.{IsSoundExporter};
     ghost use Rattle.pybuf_desc.specs.Places.{Stands};
     ghost use Rattle.pybuf_desc.specs.Valid.{IsValid};
-    ghost use Rattle.std.specs.Prelude.{Ok, Err};
     ghost use Rattle.pybuf_value.specs.Snaps.{content_of, content_of_named};
     ghost use Rattle.pybuf_value.specs.Halting.{GivesLent};
     ghost use Rattle.pybuf_value.specs.Lent.{Lends, kind_of_named};
