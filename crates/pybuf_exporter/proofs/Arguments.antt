@@ -132,6 +132,9 @@ pub byte_of : (n : ℤ) → Known (numbers.byte_of n)
 byte_of (pos n) = either (nat_lt n 256) (Ok n) (Err fault.Value) tt refl
 byte_of (negsuc n) = refl
 
+pub byte_in : (v : Value) → Known (numbers.byte_in v)
+byte_in v = bind (numbers.number_of v) _ (number_of v) (λ n. byte_of n)
+
 pub text_in : (v : Value) → Known (texts.text_in v)
 text_in (value.One (scalar.Text text)) = tt
 text_in _ = refl
@@ -348,6 +351,9 @@ needle_by pairs v (Err f) = bind (snaps.bytes_in pairs v) _ (bytes_in pairs v) (
 
 sought_in : (pairs : List (ℕ × Snap)) (v : Value) → Known (sought.sought_in pairs v)
 sought_in pairs v = bind (needles.needle_in pairs v) _ (needle_by pairs v (numbers.number_of v)) (λ sub. needle_bytes sub)
+
+pub contains_in : (pairs : List (ℕ × Snap)) (bytes : List ℕ) (v : Value) → Known (sought.contains_in pairs bytes v)
+contains_in pairs bytes v = bind (sought.sought_in pairs v) _ (sought_in pairs v) (λ sub. tt)
 
 any_of : (test : List ℕ → Bool) (pairs : List (ℕ × Snap)) (parts : List Scalar) → Known (affixes.any_of test pairs parts)
 any_of test pairs [] = tt
