@@ -172,8 +172,8 @@ impl ExporterState {
         remove_by::<Brand>(&mut self.parts, start, end, Blank::new(1))
     }
 
-    /// Takes out so many of the first bytes, as `remove_bytes` does, with a counter of the bytes that it moves: none.
-    /// They leave as much room before the bytes. Takes no memory.
+    /// Takes out the first bytes, as many as `count` says. It has a counter of the bytes that move, and none moves: what
+    /// was taken out is left as room before the bytes. Takes no memory.
     ///
     /// Refused with `BufferError` exactly where a view is unreleased. Nothing is changed then.
     /// Example: the first two of `b"abcd"` leave `b"cd"` behind a room of two bytes more.

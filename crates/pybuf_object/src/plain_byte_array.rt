@@ -268,8 +268,7 @@ impl PyByteArray {
         Ok(())
     }
 
-    /// Takes the first bytes out, so many, as a vector: a copy of them, or the bytearray's own memory where they are all
-    /// and no room lies before them. No other byte moves.
+    /// Takes the first bytes out, as many as are asked for. The result is a copy of them, and none of the others moves.
     ///
     /// Refused with `BufferError` where a view is unreleased, and then with `IndexError` where there are fewer bytes.
     /// Nothing is changed then, nor where memory runs out.
@@ -287,7 +286,7 @@ impl PyByteArray {
         Ok(front)
     }
 
-    /// The first bytes, so many, lent without a copy. It is None exactly where there are fewer. Takes no memory.
+    /// The first bytes, as many as are asked for, lent without a copy. It is None exactly where there are fewer. Takes no memory.
     /// Example: of `bytearray(b"abc")` the first two are `Some(b"ab")`, and the first four None.
     pub fn peek(&self, count: usize) -> Option<&[u8]>
         ensures { spec.LendsFront self.now.bytes count result }
