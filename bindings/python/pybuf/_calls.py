@@ -200,9 +200,10 @@ class Uncopied:
         raise TypeError(f'cannot pickle {type(self).__name__!r} object')
 
 
-def raise_for(status):
+def raise_for(status, *message):
+    """Raises the exception that a status stands for, with a message or with the name of the status."""
     status = Status(status)
-    raise EXCEPTIONS.get(status, RuntimeError)(status.name)
+    raise EXCEPTIONS.get(status, RuntimeError)(*message or (status.name,))
 
 
 def call(name, *arguments):
@@ -212,8 +213,9 @@ def call(name, *arguments):
         raise_for(status)
 
 
-def text_by(ask, *arguments):
-    """The bytes that a call copies to a room. The room is made as long as the call says. `ask` makes the call, and answers its status."""
+def text_by(ask, *arguments, refuse=raise_for):
+    """The bytes that a call copies to a room. The room is made as long as the call says. `ask` makes the call, and answers its status;
+    `refuse` raises what any other status stands for."""
     length = _SIZE(64)
     while True:
         room = ctypes.create_string_buffer(length.value)
@@ -221,11 +223,11 @@ def text_by(ask, *arguments):
         if status == Status.OK:
             return room.raw[:length.value]
         if status != Status.TOO_SMALL:
-            raise_for(status)
+            refuse(status)
 
 
-def numbers_by(ask, *arguments):
-    """The numbers that a call copies to a room. The room is made as long as the call says."""
+def numbers_by(ask, *arguments, refuse=raise_for):
+    """The numbers that a call copies to a room. The room is made as long as the call says. See `text_by`."""
     count = _SIZE(8)
     while True:
         room = (Number * max(count.value, 1))()
@@ -233,7 +235,7 @@ def numbers_by(ask, *arguments):
         if status == Status.OK:
             return [number.value() for number in room[:count.value]]
         if status != Status.TOO_SMALL:
-            raise_for(status)
+            refuse(status)
 
 
 def values_by(count, name, *arguments):

@@ -2,29 +2,67 @@
 import ctypes
 import functools
 import re
+import struct
 import threading
 
-from ._calls import BYTES_VALUE, TRUTH_VALUE, Number, Uncopied, Value, call, index_of, raw, struct_error, text_by, values_by, word_of
+from ._calls import (BYTES_VALUE, TRUTH_VALUE, Number, Status, Uncopied, Value, call, index_of, raise_for, raw, struct_error, text_by,
+                     values_by, word_of)
 from ._objects import ByteArray, MemoryView, _lent_whole
 
 # this number stands for one that doesn't fit 64 bits; no code except '?' takes it
 _PAST_ALL = -(1 << 64) + 1
 
 
-def _place(offset, size, length, refusal):
+def _place(name, offset, size, length, refusal):
     """The place of so many bytes from an offset on. A negative offset counts from the end."""
     offset = word_of(offset, refusal)
+    is_pack = name == 'pack_into'
     if offset < 0:
-        if offset + size > 0 or offset + length < 0:
+        if offset + size > 0:
+            raise struct_error(f'{"no space to pack" if is_pack else "not enough data to unpack"} {size} bytes at offset {offset}')
+        if offset + length < 0:
             raise struct_error(f'offset {offset} out of range for {length}-byte buffer')
         offset += length
     if length - offset < size:
-        raise struct_error(f'a buffer of at least {offset + size} bytes is required, it has {length}')
+        raise struct_error(f'{name} requires a buffer of at least {offset + size} bytes for {"" if is_pack else "un"}packing {size} bytes at '
+                           f'offset {offset} (actual buffer size is {length})')
     return offset
 
 
+# The library has no codes of floats. Each is read and written as a whole number of the same size, alignment and byte order. The code of a
+# pointer is that of a size, and is native alone, as in Python.
+_BITS = {'e': 'H', 'f': 'I', 'd': 'Q'}
+_STANDARD = '=<>!'
+# the names and the bounds that Python's messages have for some codes of whole numbers
+_RANGES = {'b': ('byte', -1 << 7, (1 << 7) - 1), 'B': ('ubyte', 0, (1 << 8) - 1), 'h': ('short', -1 << 15, (1 << 15) - 1),
+           'H': ('ushort', 0, (1 << 16) - 1)}
+
+
+def _carried(format):
+    """A format with whole numbers in place of floats, and without blanks. Python too lets blanks stand between codes alone."""
+    if 'u' in format:  # a code of the library alone
+        raise struct_error('bad char in struct format')
+    if re.search(r'\d\s', format):
+        raise struct_error('repeat count given without format specifier')
+    format = ''.join(format.split())
+    pointers = {} if format[:1] in tuple(_STANDARD) else {'P': 'N'}
+    return re.sub('[efdP]', lambda code: {**_BITS, **pointers}.get(code[0], code[0]), format)
+
+
+def _bits_of(code, value):
+    """The bits of a float, by Python's own `struct`."""
+    try:
+        return int.from_bytes(struct.pack(f'<{code}', value), 'little')
+    except struct_error:
+        raise struct_error('required argument is not a float') from None
+
+
+def _float_of(code, bits):
+    return struct.unpack(f'<{code}', bits.to_bytes(struct.calcsize(f'<{code}'), 'little'))[0]
+
+
 class Struct(Uncopied):
-    """A format of the module `struct`. It has no codes of floats and pointers, and no blanks."""
+    """A format of the module `struct`."""
 
     _pointer = None
 
@@ -34,16 +72,23 @@ class Struct(Uncopied):
         return made
 
     def __init__(self, format):
-        if isinstance(format, str):
-            format = format.encode('ascii')
-        elif not isinstance(format, bytes):
+        if isinstance(format, bytes):
+            format = format.decode('latin-1')
+        elif not isinstance(format, str):
             raise TypeError(f'Struct() argument 1 must be a str or bytes object, not {type(format).__name__}')
+        format.encode('ascii')  # UnicodeEncodeError, as in Python
+        carried = _carried(format).encode('ascii')
+        if b'\0' in carried:
+            raise struct_error('embedded null character')
         pointer = ctypes.c_void_p()
-        call('format_parse', format, len(format), ctypes.byref(pointer))
+        try:
+            call('format_parse', carried, len(carried), ctypes.byref(pointer))
+        except struct_error:
+            raise struct_error('bad char in struct format') from None
         with self._turn:
             self._free()  # this matters if `__init__` is called once more
             self._pointer = pointer
-            self.format = format.decode('ascii')
+            self.format = format
             self.size = self._told('format_size')
             self._count = self._told('format_count')
             vars(self).pop('_codes', None)
@@ -66,7 +111,7 @@ class Struct(Uncopied):
     @functools.cached_property
     def _codes(self):
         """The code of each value."""
-        parts = re.findall(r'(\d*)(\D)', self.format.lstrip('@=<>!'))
+        parts = re.findall(r'(\d*)(\D)', ''.join(self.format.split()).lstrip('@=<>!'))
         return ''.join(code if code in 'sp' else code * int(count or 1) for count, code in parts if code != 'x')
 
     def pack(self, *values):
@@ -76,8 +121,20 @@ class Struct(Uncopied):
         room = ctypes.create_string_buffer(max(self.size, 1))
         length = ctypes.c_size_t()
         with self._turn:
-            call('format_pack', self._pointer, words, self._count, room, self.size, ctypes.byref(length))
+            status = raw['format_pack'](self._pointer, words, self._count, room, self.size, ctypes.byref(length))
+            if status == Status.STRUCT_ERROR:  # the values are of their kinds, so one doesn't fit
+                raise struct_error(self._misfit(values))
+            if status:
+                raise_for(status)
         return room.raw[:length.value]
+
+    def _misfit(self, values):
+        """Python's message for the first number that doesn't fit its code."""
+        for code, value in zip(self._codes, values):
+            name, least, most = _RANGES.get(code, ('', 0, 0))
+            if name and not least <= index_of(value) <= most:
+                return f'{name} format requires {least} <= number <= {most}'
+        return 'argument out of range'
 
     def pack_into(self, buffer, offset, *values):
         """Writes the bytes of the values into a buffer. A refusal changes nothing."""
@@ -88,7 +145,7 @@ class Struct(Uncopied):
         with view:
             if view.readonly or not view.c_contiguous:
                 raise TypeError('a read-write bytes-like object is required')
-            offset = _place(offset, self.size, view.nbytes, IndexError)
+            offset = _place('pack_into', offset, self.size, view.nbytes, IndexError)
             packed = self.pack(*values)
             if packed:
                 with view.cast('B') as room:
@@ -102,7 +159,7 @@ class Struct(Uncopied):
 
     def unpack_from(self, buffer, offset=0):
         content = _lent_whole(buffer)
-        offset = _place(offset, self.size, len(content), OverflowError)
+        offset = _place('unpack_from', offset, self.size, len(content), OverflowError)
         return self._values(content[offset:offset + self.size])
 
     def iter_unpack(self, buffer):
@@ -111,7 +168,7 @@ class Struct(Uncopied):
         content = _lent_whole(buffer)
         if len(content) % self.size:
             raise struct_error(f'iterative unpacking requires a buffer of a multiple of {self.size} bytes')
-        return map(self._values, (content[at:at + self.size] for at in range(0, len(content), self.size)))
+        return _Values(self, content)
 
     def _values(self, content):
         with self._turn:  # the format keeps the bytes of its values until the next call
@@ -122,7 +179,30 @@ class Struct(Uncopied):
         if value.kind == BYTES_VALUE:
             return text_by(raw['format_value_bytes'], self._pointer, index)
         number = value.number.value()
-        return bool(number) if value.kind == TRUTH_VALUE else number
+        if value.kind == TRUTH_VALUE:
+            return bool(number)
+        code = self._codes[index]
+        return _float_of(code, number) if code in _BITS else number
+
+
+class _Values:
+    """The iterator over the values of each piece of some bytes."""
+
+    def __init__(self, struct, content):
+        self._struct, self._content, self._at = struct, content, 0
+
+    def __iter__(self):
+        return self
+
+    def __length_hint__(self):
+        return (len(self._content) - self._at) // self._struct.size
+
+    def __next__(self):
+        at = self._at
+        if at >= len(self._content):
+            raise StopIteration
+        self._at = at + self._struct.size
+        return self._struct._values(self._content[at:self._at])
 
 
 def _packed_as(code, value):
@@ -137,7 +217,49 @@ def _packed_as(code, value):
         if not isinstance(value, (bytes, bytearray, ByteArray)):
             raise struct_error(f"argument for '{code}' must be a bytes object")
         return Value.of_bytes(bytes(value))
+    if code in _BITS:
+        return Value.of_number(Number.of(_bits_of(code, value)))
     if not hasattr(type(value), '__index__'):
         raise struct_error('required argument is not an integer')
     number = index_of(value)
+    if code == 'P' and -1 << 63 <= number < 0:  # as in Python, a pointer is counted from the end of the memory
+        number += 1 << 64
     return Value.of_number(Number.of(number if abs(number) < 1 << 64 else _PAST_ALL))
+
+
+# As Python's module does, the functions below keep the formats that were used last.
+_known = functools.lru_cache(maxsize=100)(Struct)
+
+
+def _kept(format):
+    return _known(format) if isinstance(format, (str, bytes)) else Struct(format)
+
+
+def calcsize(format):
+    """The size of the bytes of a format."""
+    return _kept(format).size
+
+
+def pack(format, /, *values):
+    """The bytes of the values in a format."""
+    return _kept(format).pack(*values)
+
+
+def pack_into(format, buffer, offset, /, *values):
+    """Writes the bytes of the values into a buffer, from an offset on."""
+    _kept(format).pack_into(buffer, offset, *values)
+
+
+def unpack(format, buffer, /):
+    """The values of the bytes of a buffer, which has the size of the format."""
+    return _kept(format).unpack(buffer)
+
+
+def unpack_from(format, /, buffer, offset=0):
+    """The values of the bytes of a buffer from an offset on."""
+    return _kept(format).unpack_from(buffer, offset)
+
+
+def iter_unpack(format, buffer, /):
+    """The values of each piece of a buffer, where each piece has the size of the format."""
+    return _kept(format).iter_unpack(buffer)

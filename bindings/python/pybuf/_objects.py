@@ -8,7 +8,7 @@ import ctypes
 import math
 
 from ._calls import Number, Slice, Status, Uncopied, index_of, numbers_by, raise_for, text_by, word_of
-from ._worlds import World
+from ._worlds import BadLine, World
 
 _BYTEARRAY, _VECTOR = 1, 2
 # from this width on, a method's result is made in a world, and isn't read from a reply
@@ -113,14 +113,23 @@ class _Object:
 
     _world = None
     _object = None
+    # Python's messages, by a status, or by the name of a call and a status
+    _messages = {}
+
+    def _refuse(self, name, status):
+        """Raises what a refused call stands for, with Python's message if it has one."""
+        known = self._messages.get((name, status)) or self._messages.get(status)
+        raise_for(status, *[known] if known else [])
 
     def _call(self, name, *arguments):
         status = self._world.ask(name, self._object, *arguments)
         if status:
-            raise_for(status)
+            self._refuse(name, status)
 
     def _one(self, name, *arguments):
-        return self._world.made(name, self._object, *arguments)
+        made = ctypes.c_uint64()
+        self._call(name, *arguments, ctypes.byref(made))
+        return made.value
 
     def _number(self, name, *arguments):
         number = Number()
@@ -128,10 +137,10 @@ class _Object:
         return number.value()
 
     def _text(self, name, *arguments):
-        return text_by(self._world.ask, name, self._object, *arguments)
+        return text_by(self._world.ask, name, self._object, *arguments, refuse=lambda status: self._refuse(name, status))
 
     def _numbers(self, name, *arguments):
-        return numbers_by(self._world.ask, name, self._object, *arguments)
+        return numbers_by(self._world.ask, name, self._object, *arguments, refuse=lambda status: self._refuse(name, status))
 
     def __len__(self):
         length = ctypes.c_size_t()
@@ -157,11 +166,37 @@ class _Object:
         return self._compares('!=', other)
 
 
+class _Items:
+    """The items of an array by their places, from which Python makes an iterator that is pickled, and that ends for good."""
+
+    def __init__(self, array):
+        self.array = array
+
+    def __len__(self):
+        return len(self.array)
+
+    def __getitem__(self, index):
+        return self.array[index]
+
+
 class ByteArray(_Object):
     """A bytearray."""
 
     __module__ = 'pybuf'  # the module in which pickle looks for the class
     __hash__ = None
+    _messages = {
+        Status.BUFFER_ERROR: 'Existing exports of data: object cannot be re-sized',
+        Status.INDEX_ERROR: 'bytearray index out of range',
+        ('pop', Status.INDEX_ERROR): 'pop index out of range',
+        ('remove', Status.VALUE_ERROR): 'value not found in bytearray',
+        ('index', Status.VALUE_ERROR): 'subsection not found',
+        ('rindex', Status.VALUE_ERROR): 'subsection not found',
+        ('startswith', Status.TYPE_ERROR): 'startswith first arg must be bytes or a tuple of bytes',
+        ('endswith', Status.TYPE_ERROR): 'endswith first arg must be bytes or a tuple of bytes',
+    }
+
+    def __new__(cls, *arguments, **named):  # as in Python, a class below may pass on what it was given
+        return super().__new__(cls)
 
     def __init__(self, source=b'', encoding=None, errors=None):
         if isinstance(source, str):
@@ -170,10 +205,15 @@ class ByteArray(_Object):
             source = source.encode(encoding, errors or 'strict')
         elif encoding is not None or errors is not None:
             raise TypeError('encoding or errors without a string argument')
-        zeros = word_of(source, OverflowError) if _has(source, '__index__') else 0
-        if zeros < 0:
+        zeros = None
+        if _has(source, '__index__'):
+            try:
+                zeros = word_of(source, OverflowError)
+            except TypeError:  # as in Python, it may have a buffer
+                pass
+        if zeros is not None and zeros < 0:
             raise ValueError('negative count')
-        content = b'\0'[:zeros] if _has(source, '__index__') else _content(source)
+        content = _content(source) if zeros is None else b'\0'[:zeros]
         if self._world is None:
             world = World()
             self._object = world.made('new', _BYTEARRAY, content, len(content))
@@ -206,14 +246,7 @@ class ByteArray(_Object):
         return self.tobytes()
 
     def __iter__(self):
-        index = 0
-        while True:
-            try:
-                item = self[index]
-            except IndexError:
-                return
-            yield item
-            index += 1
+        return iter(_Items(self))
 
     def __lt__(self, other):
         return self._compares('<', other)
@@ -265,6 +298,16 @@ class ByteArray(_Object):
 
     def __add__(self, other):
         return ByteArray(self.tobytes() + _added(other))
+
+    def __radd__(self, other):
+        return other + self.tobytes() if isinstance(other, (bytes, bytearray)) else NotImplemented
+
+    def __mod__(self, values):
+        """Python's own formatting of bytes, with the array as the format."""
+        return ByteArray(self.tobytes() % values)
+
+    def __rmod__(self, other):
+        return NotImplemented
 
     def __iadd__(self, other):
         content = _added(other)
@@ -370,12 +413,21 @@ def _in_order(name, arguments, named):
     return list(arguments) + [named.get(word, known[word]) for word in free[:last]]
 
 
+# the methods whose first argument may be a byte, as a number
+_OF_A_BYTE = ('count', 'find', 'index', 'rfind', 'rindex')
+
+
 def _method(name):
     def called(self, *arguments, **named):
+        if name in _OF_A_BYTE and arguments and _has(arguments[0], '__index__') and not _has_buffer(arguments[0]):
+            _byte(arguments[0])
         words = [f'call h{self._object} {name}'] + [_spelled(argument) for argument in _in_order(name, arguments, named)]
-        reply, = self._world.run(' '.join(words))
+        try:
+            reply, = self._world.run(' '.join(words))
+        except BadLine:  # a line of this method has other arguments
+            raise TypeError(f'{name}() takes other arguments') from None
         if reply.startswith('! '):
-            raise_for(_REFUSALS[reply[2:]])
+            self._refuse(name, _REFUSALS[reply[2:]])
         value = ast.literal_eval(reply)
         if isinstance(value, bytes):
             return ByteArray(value)
@@ -390,6 +442,8 @@ def _method(name):
 
 def _hex(self, sep=_LEFT_OUT, bytes_per_sep=1):
     """The digits of the bytes, with a separator between groups."""
+    if not isinstance(self, _Object):
+        raise TypeError(f"descriptor 'hex' doesn't apply to {type(self).__name__!r} objects")
     if sep is _LEFT_OUT:
         return self.tobytes().hex()
     if isinstance(sep, str):
@@ -447,8 +501,24 @@ class MemoryView(_Object, Uncopied):
     _constant = False
     _released = False
     _known = None
+    _hashed = None
+    _messages = {
+        Status.INDEX_ERROR: 'index out of bounds on dimension 1',
+        ('set', Status.TYPE_ERROR): 'cannot modify read-only memory',
+        ('set_at', Status.TYPE_ERROR): 'cannot modify read-only memory',
+        ('set_slice', Status.TYPE_ERROR): 'cannot modify read-only memory',
+        ('set_slice_of', Status.TYPE_ERROR): 'cannot modify read-only memory',
+        ('set_slice', Status.VALUE_ERROR): 'memoryview assignment: lvalue and rvalue have different structures',
+        ('set_slice_of', Status.VALUE_ERROR): 'memoryview assignment: lvalue and rvalue have different structures',
+    }
 
-    def __init__(self, source):
+    def _refuse(self, name, status):
+        if self._released and status == Status.VALUE_ERROR:
+            raise ValueError('operation forbidden on released memoryview object')
+        super()._refuse(name, status)
+
+    def __init__(self, object):
+        source = object  # Python's name of the argument
         if self._world is not None:  # it may be called once more, as with Python's own
             return
         if isinstance(source, (ByteArray, MemoryView)):
@@ -476,7 +546,7 @@ class MemoryView(_Object, Uncopied):
             self._source = source
 
     def _made(self, made):
-        view = object.__new__(type(self))
+        view = type(self).__new__(type(self))
         view._keep(self, made)
         return view
 
@@ -509,6 +579,8 @@ class MemoryView(_Object, Uncopied):
 
     def __getitem__(self, key):
         if isinstance(key, slice):
+            if any(type(part) not in (int, type(None)) for part in (key.start, key.stop, key.step)):
+                self = self._made(self._one('view'))  # a part may run code that releases the view, which doesn't end the slice in Python
             return self._made(self._one('get_slice', ctypes.byref(Slice.of(key))))
         if isinstance(key, tuple):
             indices = self._indices(key)
@@ -528,7 +600,7 @@ class MemoryView(_Object, Uncopied):
         number = Number()
         status, content = self._world.ask_for_item(name, self._object, *arguments, ctypes.byref(number))
         if status:
-            raise_for(status)
+            self._refuse(name, status)
         if content is not None:
             return content
         return bool(number.magnitude) if self._code == '?' else number.value()
@@ -609,7 +681,7 @@ class MemoryView(_Object, Uncopied):
             self[key]  # a key is checked before a value
             # the kind was right, so the number doesn't fit, which is ValueError in Python
             raise ValueError(f'memoryview: invalid value for format {self.format!r}')
-        raise_for(status)
+        self._refuse(name, status)
 
     def __delitem__(self, key):
         self._alive()
@@ -671,6 +743,11 @@ class MemoryView(_Object, Uncopied):
     hex = _hex
 
     def __hash__(self):
+        if self._hashed is None:  # it stays when the view is released
+            self._hashed = self._hash()
+        return self._hashed
+
+    def _hash(self):
         if not self.readonly:
             raise ValueError('cannot hash writable memoryview object')
         if self.format not in _HASHED:
