@@ -2,11 +2,11 @@
 import ctypes
 import functools
 import re
-import struct
 import threading
 
 from ._calls import (BYTES_VALUE, TRUTH_VALUE, Number, Status, Uncopied, Value, call, index_of, raise_for, raw, struct_error, text_by,
                      values_by, word_of)
+from ._floats import BITS, bits_of, float_of
 from ._objects import ByteArray, MemoryView, _lent_whole
 
 # this number stands for one that doesn't fit 64 bits; no code except '?' takes it
@@ -29,9 +29,7 @@ def _place(name, offset, size, length, refusal):
     return offset
 
 
-# The library has no codes of floats. Each is read and written as a whole number of the same size, alignment and byte order. The code of a
-# pointer is that of a size, and is native alone, as in Python.
-_BITS = {'e': 'H', 'f': 'I', 'd': 'Q'}
+# The code of a pointer is that of a size, and is native alone, as in Python.
 _STANDARD = '=<>!'
 # the names and the bounds that Python's messages have for some codes of whole numbers
 _RANGES = {'b': ('byte', -1 << 7, (1 << 7) - 1), 'B': ('ubyte', 0, (1 << 8) - 1), 'h': ('short', -1 << 15, (1 << 15) - 1),
@@ -39,26 +37,14 @@ _RANGES = {'b': ('byte', -1 << 7, (1 << 7) - 1), 'B': ('ubyte', 0, (1 << 8) - 1)
 
 
 def _carried(format):
-    """A format with whole numbers in place of floats, and without blanks. Python too lets blanks stand between codes alone."""
-    if 'u' in format:  # a code of the library alone
+    """A format with whole numbers in place of floats, and without the blanks that may stand between codes."""
+    if re.search(r'u|\d\s|\s[@=<>!]', format):  # a code of the library alone, or a blank where Python has none
         raise struct_error('bad char in struct format')
-    if re.search(r'\d\s', format):
+    if format[-1:].isdigit():
         raise struct_error('repeat count given without format specifier')
     format = ''.join(format.split())
     pointers = {} if format[:1] in tuple(_STANDARD) else {'P': 'N'}
-    return re.sub('[efdP]', lambda code: {**_BITS, **pointers}.get(code[0], code[0]), format)
-
-
-def _bits_of(code, value):
-    """The bits of a float, by Python's own `struct`."""
-    try:
-        return int.from_bytes(struct.pack(f'<{code}', value), 'little')
-    except struct_error:
-        raise struct_error('required argument is not a float') from None
-
-
-def _float_of(code, bits):
-    return struct.unpack(f'<{code}', bits.to_bytes(struct.calcsize(f'<{code}'), 'little'))[0]
+    return re.sub('[efdP]', lambda code: {**BITS, **pointers}.get(code[0], code[0]), format)
 
 
 class Struct(Uncopied):
@@ -182,7 +168,7 @@ class Struct(Uncopied):
         if value.kind == TRUTH_VALUE:
             return bool(number)
         code = self._codes[index]
-        return _float_of(code, number) if code in _BITS else number
+        return float_of(code, number) if code in BITS else number
 
 
 class _Values:
@@ -217,8 +203,8 @@ def _packed_as(code, value):
         if not isinstance(value, (bytes, bytearray, ByteArray)):
             raise struct_error(f"argument for '{code}' must be a bytes object")
         return Value.of_bytes(bytes(value))
-    if code in _BITS:
-        return Value.of_number(Number.of(_bits_of(code, value)))
+    if code in BITS:
+        return Value.of_number(Number.of(bits_of(code, value)))
     if not hasattr(type(value), '__index__'):
         raise struct_error('required argument is not an integer')
     number = index_of(value)

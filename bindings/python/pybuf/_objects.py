@@ -7,7 +7,8 @@ import ast
 import ctypes
 import math
 
-from ._calls import Number, Slice, Status, Uncopied, index_of, numbers_by, raise_for, text_by, word_of
+from ._calls import Number, Slice, Status, Uncopied, index_of, numbers_by, raise_for, struct_error, text_by, word_of
+from ._floats import BITS, bits_of, float_of
 from ._worlds import BadLine, World
 
 _BYTEARRAY, _VECTOR = 1, 2
@@ -73,11 +74,16 @@ def _is_of_bytes(view):
     return view.format == 'B' and view.ndim == 1
 
 
+def carried(format):
+    """The format of a view in the library: that of a whole number in place of a float."""
+    return BITS.get(format.lstrip('@'), format)
+
+
 def _copied(world, view):
     """Copies the items of a view of ours or of Python's into a world. The last of the numbers that it answers is that of a view of
     the copy, with the same format and shape, the first that of the copy, and the others those of views on the way. A format that
     `cast` doesn't take is its ValueError."""
-    shape, format, content = list(view.shape), view.format.encode(), view.tobytes()
+    shape, format, content = list(view.shape), carried(view.format).encode(), view.tobytes()
     none = shape[:1] == [0]
     if none:  # a cast can't make a view without items, but a slice can
         shape[0] = 1
@@ -500,7 +506,9 @@ class MemoryView(_Object, Uncopied):
 
     _constant = False
     _released = False
+    # the format, if it is asked for by Python code: of floats it isn't that of the library
     _known = None
+    _shown = None
     _hashed = None
     _messages = {
         Status.INDEX_ERROR: 'index out of bounds on dimension 1',
@@ -528,6 +536,7 @@ class MemoryView(_Object, Uncopied):
         with memoryview(source) as view:
             try:
                 made = _copied(world, view)[-1]
+                self._shown = view.format if view.format.lstrip('@') in BITS else None
             except ValueError:  # the library has no such items, but it has their bytes
                 made = _copied(world, memoryview(view.tobytes()))[-1]
             self._object = world.made('to_readonly', made) if view.readonly else made
@@ -541,7 +550,7 @@ class MemoryView(_Object, Uncopied):
         self._world = source._world
         self._object = made
         if isinstance(source, MemoryView):
-            self._source, self._constant = source._source, source._constant
+            self._source, self._constant, self._shown = source._source, source._constant, source._shown
         else:
             self._source = source
 
@@ -603,7 +612,12 @@ class MemoryView(_Object, Uncopied):
             self._refuse(name, status)
         if content is not None:
             return content
-        return bool(number.magnitude) if self._code == '?' else number.value()
+        return self._of_number(number.value())
+
+    def _of_number(self, number):
+        """An item by its number."""
+        code = self._code
+        return bool(number) if code == '?' else float_of(code, number) if code in BITS else number
 
     @property
     def _code(self):
@@ -612,19 +626,29 @@ class MemoryView(_Object, Uncopied):
             self._known = self.format.lstrip('@')
         return self._known
 
+    def _has_floats(self):
+        return self._shown is not None
+
+    def _compares(self, operator, other):
+        if self._has_floats() or isinstance(other, MemoryView) and other._has_floats():
+            return self._compares_outside(operator, other)
+        return super()._compares(operator, other)
+
     def _compares_outside(self, operator, other):
-        """Compares with an object of another world, or with one of Python's."""
+        """Compares with an object of another world, or with one of Python's. Floats are equal by their values."""
         try:
             view = _lent_view(other)
         except (BufferError, TypeError, ValueError):
             return NotImplemented
         try:
+            if self._has_floats() or view.format.lstrip('@') in BITS:
+                return (self.shape == view.shape and self.tolist() == view.tolist()) == (operator == '==')
             if _is_of_bytes(view):
                 return self._compares_with_bytes(operator, view.tobytes())
             world = World()
             ours, others = _copied(world, self)[-1], _copied(world, view)[-1]
         except ValueError:  # one view was released, or the library has no such items; then each view is equal only to itself
-            return operator == '!='
+            return (self is other) == (operator == '==')
         return _truth(world, 'compare_with', ours, _OPERATORS[operator], others)
 
     def _assign(self, words, value):
@@ -649,7 +673,7 @@ class MemoryView(_Object, Uncopied):
     def __setitem__(self, key, value):
         if isinstance(key, slice):
             words = ctypes.byref(Slice.of(key))
-            if isinstance(value, _Object) and value._world is self._world:
+            if isinstance(value, _Object) and value._world is self._world and getattr(value, '_shown', None) == self._shown:
                 self._call('set_slice_of', words, value._object)
             else:
                 self._assign(words, value)
@@ -667,6 +691,13 @@ class MemoryView(_Object, Uncopied):
             return
         if self._code == '?':
             value = bool(value)
+        if self._has_floats():
+            try:
+                value = bits_of(self._code, value)
+            except OverflowError:  # as in Python, a view has infinity in place of a float that is too large
+                value = bits_of(self._code, math.copysign(math.inf, value))
+            except struct_error:
+                value = None
         if not hasattr(value, '__index__'):
             if not self.readonly:
                 self[key]
@@ -721,8 +752,8 @@ class MemoryView(_Object, Uncopied):
             items = [bytes((byte,)) for byte in self.tobytes()]
         else:
             items = self._numbers('items')
-            if self._code == '?':
-                items = [bool(item) for item in items]
+            if self._code == '?' or self._has_floats():
+                items = [self._of_number(item) for item in items]
         for width in reversed(shape[1:]):
             items = [items[at:at + width] for at in range(0, len(items), width)]
         return items
@@ -731,11 +762,16 @@ class MemoryView(_Object, Uncopied):
         if not isinstance(format, str):
             raise TypeError(f"cast() argument 'format' must be str, not {type(format).__name__}")
         if shape is None:
-            return self._made(self._one('cast', format.encode('ascii'), None, 0))
+            return self._cast(format, None, 0)
         if not isinstance(shape, (list, tuple)) or not all(isinstance(size, int) for size in shape):
             raise TypeError('shape must be a list or a tuple of integers')
         sizes = [word_of(size, OverflowError) for size in shape]
-        return self._made(self._one('cast', format.encode('ascii'), (ctypes.c_int64 * max(len(sizes), 1))(*sizes), len(sizes)))
+        return self._cast(format, (ctypes.c_int64 * max(len(sizes), 1))(*sizes), len(sizes))
+
+    def _cast(self, format, *sizes):
+        made = self._made(self._one('cast', carried(format).encode('ascii'), *sizes))
+        made._shown = format if format.lstrip('@') in BITS else None
+        return made
 
     def toreadonly(self):
         return self._made(self._one('to_readonly'))
@@ -770,4 +806,8 @@ class MemoryView(_Object, Uncopied):
     strides = property(lambda self: tuple(self._numbers('property_numbers', _NAMES['strides'])))
     suboffsets = property(lambda self: self._alive() or ())
     obj = property(lambda self: self._alive() or self._source)
-    format = property(lambda self: self._text('property_text', _NAMES['format']).decode())
+
+    @property
+    def format(self):
+        told = self._text('property_text', _NAMES['format']).decode()
+        return self._shown or told

@@ -45,6 +45,65 @@ def raises(kind):
     return said
 
 
+# ---- floats ----
+
+def told(*calls):
+    """What calls answer, or the exceptions that they raise."""
+    answers = []
+    for call in calls:
+        try:
+            answers.append(plain(call()))
+        except Exception as fault:
+            answers.append((type(fault).__name__, str(fault)))
+    return answers
+
+
+def items_that_are_floats(A, M, S):
+    a = A(bytes(16))
+    m = M(a)
+    f = m.cast('f')
+    return told(lambda: f.__setitem__(1, 1.5), lambda: f.__setitem__(-1, 3), lambda: f.__setitem__(0, 'x'), lambda: f.__setitem__(9, 1.0),
+                lambda: f[9], lambda: f[1], f.tolist, lambda: a, lambda: (f.format, f.itemsize, f.shape, f.nbytes), lambda: f[::-1].tolist(),
+                lambda: f[1:3].format, lambda: f.cast('B').tolist(), lambda: m.cast('d').tolist(), lambda: m.cast('@f', (2, 2)).tolist(),
+                lambda: m.cast('f', (2, 2))[0, 1], lambda: list(f), lambda: 1.5 in f, lambda: f.toreadonly().__setitem__(0, 1.0),
+                lambda: hash(f.toreadonly()), lambda: f.__setitem__(0, 1e300), lambda: f.__setitem__(2, -1e300), lambda: f.tolist())
+
+
+def floats_are_equal_by_value(A, M, S):
+    f = M(A(bytes(16))).cast('f')
+    f[1] = 1.0
+    other = M(array('i', [0, 1, 0, 0]))
+    same = [f == f, f == other, other == f, f != other, f == M(array('d', f)), f == f.cast('B'), f == 5, f == b'']
+    f[0] = float('nan')
+    return same, f == f, f != f, f[1:] == f[1:]
+
+
+def floats_are_assigned_to_floats(A, M, S):
+    m = M(A(bytes(16)))
+    f, whole = m.cast('f'), m.cast('I')
+    return told(lambda: f.__setitem__(slice(0, 2), array('f', [7.0, 8.0])), lambda: f.__setitem__(slice(2, 4), f[0:2]),
+                lambda: f.__setitem__(slice(0, 2), whole[0:2]), lambda: whole.__setitem__(slice(0, 2), f[0:2]),
+                lambda: f.__setitem__(slice(0, 2), array('i', [1, 2])), f.tolist)
+
+
+def views_of_floats_that_are_no_bytearray(A, M, S):
+    m = M(array('d', [1.0, 2.5]))
+    return m.tolist(), m[1], m[::-1].tolist(), m.format, m.cast('B')[7], m[:0].tolist()
+
+
+def a_released_view_of_floats_is_itself(A, M, S):
+    f = M(A(bytes(8))).cast('d')
+    f.release()
+    return f == f, f != f
+
+
+def formats_with_floats(A, M, S):
+    return told(lambda: S('<efd').pack(1.5, -2.5, 1e300), lambda: S('>2e').unpack(b'\x3c\x00\xc0\x00'), lambda: S('f').pack('x'),
+                lambda: S('<f').pack(1e300), lambda: S('e').pack(1e10), lambda: S('d').unpack(S('d').pack(float('nan')))[0] != 0,
+                lambda: S(' <h f\t2x ').size, lambda: S('2 h'), lambda: S('@P').size, lambda: S('<P'), lambda: S('u'),
+                lambda: S('bd').size, lambda: S('<bd').size, lambda: S('e').pack(2), lambda: S('0f').pack())
+
+
 # ---- views that nobody names ----
 
 def a_view_on_the_way_is_released(A, M, S):

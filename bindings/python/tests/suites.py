@@ -25,7 +25,6 @@ import pybuf
 
 COPIED = 'a view of an object of Python\'s is a view of a copy, so no write goes through it'
 NO_BUFFER = 'our types have no buffer for Python\'s C interface'
-NO_FLOATS = 'a view has no items that are floats'
 IN_PYTHON = 'our classes are written in Python, so their attributes can be set and they have another size'
 BY_NAME = 'the test starts an interpreter in which our class has no name'
 
@@ -34,8 +33,7 @@ DIFFERENCES = {
     'ArrayTests.test_ord': NO_BUFFER,
     'ArrayTests.test_sq_item': NO_BUFFER,
     'ArrayMemoryviewTest.test_array_assign': COPIED,
-    'OtherTest.test_ctypes_cast': NO_FLOATS,
-    'OtherTest.test_use_released_memory': NO_FLOATS,
+    'OtherTest.test_ctypes_cast': COPIED,
     'StructTest.test__sizeof__': IN_PYTHON,
     'StructTest.test__struct_types_immutable': IN_PYTHON,
 }
