@@ -151,6 +151,7 @@ pub use pybuf_share::Receipt;
 pub use pybuf_share::ReceiptList;
 pub use pybuf_share::ScriptList;
 pub use pybuf_share::Session;
+pub use pybuf_share::SharedCommand;
 pub use pybuf_share::SharedExporter;
 pub use pybuf_share::joined_entries_are_the_scripts;
 pub use pybuf_share::legal_histories_are_of_one_thread;

@@ -15,7 +15,9 @@ mod session;
 mod shared;
 mod worker;
 
-pub use entries::{Entry, EntryList, LocalCommandList, Receipt, ReceiptList, ScriptList};
+pub use entries::{
+    Entry, EntryList, LocalCommandList, Receipt, ReceiptList, ScriptList, SharedCommand,
+};
 pub use gate::{Gate, OpenGate};
 pub use joined::{FinishFault, Joined};
 pub use laws::{

@@ -4,7 +4,7 @@ ghost use Rattle.pybuf_share.specs.Finishing.{parts_of, calls_of, IsOwn};
 ghost use Rattle.std.specs.Prelude.{◌≡◌, ◌⊎◌, Err, ◌+◌, ◌<◌, ◌≤◌, ◌^◌, [], ◌∷◌, ◌++◌, length, IfOk, IfErr, OnOk, OnErr};
 
 use crate::checks::{check_sessions, order_fault};
-use crate::entries::{Entry, EntryList, Receipt};
+use crate::entries::{Entry, EntryList, Receipt, SharedCommand};
 use crate::joined::{FinishFault, Joined};
 use crate::session::Session;
 use pybuf_command::{ExporterKind, LocalCommand};
@@ -43,19 +43,14 @@ impl<L: Ledger> Model for Logged<L> {
     ghost invariant = { λ l. IsKept (record { kind = l.kind; opening = l.opening; entries = l.history.items }) l.state.exporter l.calls.total × (l.none.parts ≡ 0) };
 }
 
-/// A command twice.
-fn copied_twice(alloc: Global, command: &LocalCommand) -> Made<(LocalCommand, LocalCommand)>
+/// A copy of a command, held twice.
+fn held_twice(alloc: Global, command: &LocalCommand) -> Made<(SharedCommand, SharedCommand)>
     ensures { IfOk result (λ r. (r.0 ≡ command.now) × (r.1 ≡ command.now)) }
 {
-    let kept = command.copy(alloc)?;
-    match command.copy(alloc) {
-        Ok(own) => Ok((kept, own)),
-        Err(NoMemory) => {
-            // The command is dropped by a call. If it ended with its scope, the drop would spell out all its variants.
-            drop(kept);
-            Err(NoMemory)
-        }
-    }
+    let command = command.copy(alloc)?;
+    let own = SharedCommand::new(alloc, command)?;
+    let kept = own.copy(alloc)?;
+    Ok((kept, own))
 }
 
 impl<L: Ledger> Logged<L> {
@@ -157,19 +152,19 @@ impl<L: Ledger> Logged<L> {
         ensures err { OnErr result (self.new ≡ self.old) }
         ensures err_amount { OnErr result (share.new.amount ≡ share.old.amount) }
     {
-        match copied_twice(self.alloc, command) {
+        match held_twice(self.alloc, command) {
             Ok((kept, own)) => self.note_kept(session, share, kept, own),
             Err(NoMemory) => Err(NoMemory),
         }
     }
 
-    /// The same of a command that is there twice: for the history, and for the receipt.
+    /// The same of a command that is held twice: for the history, and for the receipt.
     pub(crate) fn note_kept(
         &mut self,
         session: u64,
         share: &mut Share<L>,
-        kept: LocalCommand,
-        own: LocalCommand,
+        kept: SharedCommand,
+        own: SharedCommand,
     ) -> Made<Receipt>
         requires fit { LoansFit own.loans }
         requires same { kept ≡ own }
@@ -183,7 +178,7 @@ impl<L: Ledger> Logged<L> {
     {
         self.history.reserve(1)?;
         let at = self.history.len() as u64;
-        let (reply, copy) = self.state.step_copied(&own)?;
+        let (reply, copy) = self.state.step_copied(own.as_command())?;
         push_reserved(
             &mut self.history,
             Entry {
@@ -213,14 +208,9 @@ impl<L: Ledger> Logged<L> {
         ensures err { OnErr result (self.new ≡ self.old) }
         ensures err_session { OnErr result (session.new ≡ session.old) }
     {
-        match session.prepare(self.alloc, &command) {
-            Ok(kept) => session.ask(self, kept, command),
-            Err(NoMemory) => {
-                // The command is dropped by a call. If it ended with its scope, the drop would spell out all its
-                // variants.
-                drop(command);
-                Err(NoMemory)
-            }
+        match session.prepare(self.alloc, command) {
+            Ok((kept, own)) => session.ask(self, kept, own),
+            Err(NoMemory) => Err(NoMemory),
         }
     }
 
