@@ -1,6 +1,7 @@
 //! What lies under the lock of a shared exporter: the exporter beside its history, and the book that counts the calls.
 ghost use Rattle.std.specs.List.{All};
-ghost use Rattle.pybuf_share.specs.Finishing.{parts_of, calls_of, IsOwn};
+ghost use Rattle.pybuf_share.specs.Finishing.{parts_of, calls_of, AreAll, IsOwn};
+ghost use Rattle.pybuf_share.specs.Sessions.{sessions_from};
 ghost use Rattle.std.specs.Prelude.{◌≡◌, ◌⊎◌, Err, ◌+◌, ◌<◌, ◌≤◌, ◌^◌, [], ◌∷◌, ◌++◌, length, IfOk, IfErr, OnOk, OnErr};
 
 use crate::checks::{check_sessions, order_fault};
@@ -56,8 +57,8 @@ fn held_twice(alloc: Global, command: &LocalCommand) -> Made<(SharedCommand, Sha
 impl<L: Ledger> Logged<L> {
     ghost use Rattle.pybuf_state.specs.Fits.{LoansFit};
     ghost use Rattle.pybuf_share.specs.History.{state_of, IsLegalLog, noted, receipt_now};
-    ghost use Rattle.pybuf_share.specs.Sessions.{sessions_from, received};
-    ghost use Rattle.pybuf_share.specs.Finishing.{AreAll, Agree, Refuses, IsJoined, ArePlain, AreTheirs};
+    ghost use Rattle.pybuf_share.specs.Sessions.{received};
+    ghost use Rattle.pybuf_share.specs.Finishing.{Agree, Refuses, IsJoined, ArePlain, AreTheirs};
 
     /// An exporter of a kind and of these bytes with no entry, and so many sessions, numbered from 0, each of which
     /// has one part of the ledger. The number of sessions is from 1 to 1,024.
@@ -81,11 +82,7 @@ impl<L: Ledger> Logged<L> {
         let opening = bytes.copy(alloc)?;
         let (calls, mut share) = blank.open::<L>();
         let none = share.empty();
-        let mut made = Vec::new(alloc);
-        for number in 0..sessions {
-            let part = share.split_off(1, 0);
-            made.push(Session::new(alloc, number as u64, part))?;
-        }
+        let made = sessions_by(alloc, share, sessions)?;
         let logged = Logged {
             kind,
             opening,
@@ -298,8 +295,29 @@ impl<L: Ledger> Logged<L> {
     }
 }
 
+/// So many new sessions, numbered from 0, each of which gets one part of the share.
+pub(crate) fn sessions_by<L: Ledger>(
+    alloc: Global,
+    share: Share<L>,
+    sessions: usize,
+) -> Made<Vec<Session<L>>>
+    requires most { sessions ≤ 1024 }
+    requires each { share.parts ≡ sessions }
+    requires nothing { share.amount ≡ 0 }
+    ensures sessions { IfOk result (λ made. made.items ≡ sessions_from 0 sessions) }
+    ensures all { IfOk result (λ made. AreAll share.parts made.items) }
+{
+    let mut share = share;
+    let mut made = Vec::new(alloc);
+    for number in 0..sessions {
+        let part = share.split_off(1, 0);
+        made.push(Session::new(alloc, number as u64, part))?;
+    }
+    Ok(made)
+}
+
 /// Adds the shares of all sessions together, by which the book has counted what they have.
-fn count_calls<L: Ledger>(calls: Book<L>, none: Share<L>, sessions: Vec<Session<L>>)
+pub(crate) fn count_calls<L: Ledger>(calls: Book<L>, none: Share<L>, sessions: Vec<Session<L>>)
     requires none { none.parts ≡ 0 }
     requires whole { parts_of sessions.items ≡ L.parts }
     ensures counted { calls.total ≡ calls_of sessions.items }
