@@ -12,11 +12,12 @@ use pybuf_value::{Made, push_bytes};
 pub(crate) fn push_entry(out: &mut Vec<u8>, entry: &Entry) -> Made<()>
     ensures { OnOk result (out.new.items ≡ out.old.items ++ entry_text entry.now) }
 {
+    let command = entry.command.as_command();
     push_decimal(out, entry.session)?;
     out.extend_from_slice(b": ")?;
-    push_command(out, &entry.command)?;
+    push_command(out, command)?;
     out.extend_from_slice(b" -> ")?;
-    push_local_reply(out, entry.command.subject, &entry.reply)
+    push_local_reply(out, command.subject, &entry.reply)
 }
 
 /// Adds the line of an entry, as `0: get v0 1 -> 97`, with its line feed. The number of its session comes first. The

@@ -58,7 +58,7 @@ disagrees_in entries ss i s (fault.Disagree at kept got) within read all why =
 disagrees_in entries ss i s (fault.Order session before after) within read all why = absurd why
 disagrees_in entries ss i s (fault.Opening given_kind given kept_kind kept) within read all why = absurd why
 
-abbrev is_order : FinishFault → Bool
+abbrev pub is_order : FinishFault → Bool
 is_order (fault.Order session before after) = true
 is_order _ = false
 
@@ -66,7 +66,7 @@ order_or : (session : ℕ) (fall : Option (ℕ × ℕ)) (others : Option FinishF
 order_or session None others f rest e = rest e
 order_or session (Some pair) others f rest e = sym (ap is_order (same_Some {A = FinishFault} (fault.Order session pair.0 pair.1) f e))
 
-order_only : (ss : List Asker) (f : FinishFault) → order_fault ss ≡ Some f → is_order f ≡ true
+pub order_only : (ss : List Asker) (f : FinishFault) → order_fault ss ≡ Some f → is_order f ≡ true
 order_only [] f e = absurd (none-some {A = FinishFault} f e)
 order_only (s ∷ ss) f e = order_or s.number (first_fall s.receipts) (order_fault ss) f (order_only ss f) e
 

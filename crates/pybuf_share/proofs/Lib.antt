@@ -2,6 +2,7 @@ pub mod Faults
 pub mod Follows
 pub mod Joins
 pub mod Lends
+pub mod OneAfterOther
 pub mod Replays
 pub mod Runs
 pub mod Scripts

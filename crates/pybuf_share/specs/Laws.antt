@@ -1,5 +1,5 @@
 -- Laws of histories and of entries that join scripts.
-use Rattle.std.specs.Prelude.{◌≡◌, ℕ, List, [], ◌∷◌, length, map, take, Some, slice_get}
+use Rattle.std.specs.Prelude.{◌≡◌, ℕ, List, [], ◌∷◌, ◌++◌, length, map, take, Some, slice_get}
 use Rattle.std.specs.List.{sum_by, All}
 use Rattle.pybuf_command.specs.declared.commands.LocalCommand.{LocalCommand}
 use Rattle.pybuf_command.specs.declared.commands.LocalReply.{LocalReply}
@@ -8,8 +8,9 @@ use Rattle.pybuf_state.specs.Exporter.{Exporter, new_exporter}
 use Rattle.pybuf_share.specs.declared.entries.Entry.{Entry}
 use Rattle.pybuf_share.specs.Sessions.{Asker}
 use Rattle.pybuf_share.specs.Finishing.{numbers_from, NumbersRise, Stands, receipts_of, calls_of, IsOwn, ArePlain, AreTheirs}
-use Rattle.pybuf_share.specs.History.{step_by, replay, IsLegal}
+use Rattle.pybuf_share.specs.History.{step_by, after_entries, replay, IsLegal}
 use Rattle.pybuf_share.specs.Joining.{resolve, entries_of, Joins}
+use Rattle.pybuf_share.specs.Parts.{IsLegalFrom}
 
 -- What is known of all sessions of an exporter at their end, compared with a history. Their receipts stand in
 -- it, at rising numbers, and each came from a call. The ledger has counted as many calls for them as there are
@@ -45,6 +46,25 @@ pub record IsOfOneThread (k : ExporterKind) (opening : List ℕ) (entries : List
 -- A legal history is what one thread gets.
 abbrev pub LegalHistoriesAreOfOneThread : Type 0
 LegalHistoriesAreOfOneThread = (k : ExporterKind) (opening : List ℕ) (entries : List Entry) → IsLegal k opening entries → IsOfOneThread k opening entries
+
+-- One thread gets this exporter and these replies, if it steps an exporter of this state through the commands of the
+-- entries.
+pub record IsOfOneThreadFrom (e : Exporter) (entries : List Entry) : Type 0 where
+  pub exporter : after_entries e entries ≡ stepped_through e (map (λ x. x.command) entries)
+  pub replies : map (λ x. x.reply) entries ≡ replied_to e (map (λ x. x.command) entries)
+
+-- A legal part is what one thread gets that begins where the part begins.
+abbrev pub LegalPartsAreOfOneThread : Type 0
+LegalPartsAreOfOneThread = (e : Exporter) (entries : List Entry) → IsLegalFrom e entries → IsOfOneThreadFrom e entries
+
+-- Two parts, of which the second begins where the first ends, are one part.
+pub record AreOnePart (e : Exporter) (before after : List Entry) : Type 0 where
+  pub legal : IsLegalFrom e (before ++ after)
+  pub leads : after_entries e (before ++ after) ≡ after_entries (after_entries e before) after
+
+-- Legal parts, one after the other, are one legal history.
+abbrev pub PartsMakeOneHistory : Type 0
+PartsMakeOneHistory = (e : Exporter) (before after : List Entry) → IsLegalFrom e before → IsLegalFrom (after_entries e before) after → AreOnePart e before after
 
 -- A command of a script has its entry: the session's entry at the command's place. That entry's command is this
 -- one, and its views and iterators are named as the replies of the session's entries before name them.

@@ -3,6 +3,7 @@ pub mod Finishing
 pub mod History
 pub mod Joining
 pub mod Laws
+pub mod Parts
 pub mod Running
 pub mod Sessions
 pub mod Working

@@ -51,7 +51,7 @@ fn same_entry(kept: &Entry, shown: &Entry) -> bool
     if kept.session != shown.session {
         return false;
     }
-    if kept.command != shown.command {
+    if kept.command.as_command() != shown.command.as_command() {
         return false;
     }
     kept.reply == shown.reply

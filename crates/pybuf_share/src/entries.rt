@@ -1,8 +1,54 @@
 //! What is kept of each command, and what a session has to show for it.
+ghost use Rattle.std.specs.Prelude.{◌≡◌, IfOk};
 
 use pybuf_command::{LocalCommand, LocalReply};
 use pybuf_value::{Items, Made, NoMemory, Twin};
 use std::alloc::Global;
+use std::marker::Model;
+use std::sync::Arc;
+
+/// A command that is kept once, however many entries and receipts hold it. A clause sees the command.
+/// Example: the entry of a command and the receipt of its session hold one `SharedCommand` together.
+#[derive(Debug, Drop)]
+pub struct SharedCommand {
+    command: Arc<LocalCommand, Global>,
+}
+
+impl Model for SharedCommand {
+    ghost use Rattle.std.specs.Arc.{arc_value};
+    ghost use Rattle.pybuf_command.specs.declared.commands.LocalCommand.{LocalCommand};
+
+    ghost Value = { LocalCommand };
+
+    ghost view = { λ c. arc_value c.command };
+}
+
+impl SharedCommand {
+    /// A command that may be held together from now on. Where memory runs out, the command is dropped.
+    /// Example: of the command `len` it is that command.
+    pub fn new(alloc: Global, command: LocalCommand) -> Made<SharedCommand>
+        ensures { IfOk result (λ c. c ≡ command) }
+    {
+        let command = Arc::new(alloc, command)?;
+        Ok(SharedCommand { command })
+    }
+
+    /// The command, lent. Takes no memory.
+    /// Example: of `SharedCommand::new(alloc, command)?` it is `&command`.
+    pub fn as_command(&self) -> &LocalCommand
+        ensures { result.now ≡ self.now }
+    {
+        &*self.command
+    }
+}
+
+impl Twin for SharedCommand {
+    /// The same command, held once more. Nothing of it is copied.
+    fn copy(&self, _alloc: Global) -> Made<SharedCommand> {
+        let command = Arc::try_clone(&self.command)?;
+        Ok(SharedCommand { command })
+    }
+}
 
 /// A command of a session, and its reply, as the history keeps them.
 /// Example: session 2, `append 65` and the reply `Ok` stand for one byte that session 2 added.
@@ -11,7 +57,7 @@ pub struct Entry {
     /// The number of the session that asked.
     pub session: u64,
     /// What it asked.
-    pub command: LocalCommand,
+    pub command: SharedCommand,
     /// What the exporter replied.
     pub reply: LocalReply,
 }

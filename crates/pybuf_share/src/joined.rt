@@ -20,6 +20,17 @@ pub struct Joined {
     pub state: ExporterState,
 }
 
+/// A part of a history that was handed over: all entries since the part began, in their order, and the exporter as it
+/// is afterwards, from which the next part may go on.
+/// Example: one entry `append 66` and an exporter with `b"AB"` are a part that began with `b"A"`.
+#[derive(Drop)]
+pub struct Part {
+    /// All entries of the part, in their order.
+    pub entries: EntryList,
+    /// The exporter as it is after the last entry.
+    pub state: ExporterState,
+}
+
 /// Why sessions don't agree with a history.
 /// Example: `FinishFault::NoMemory` stands for memory that ran out in a thread.
 #[derive(Debug, Drop)]

@@ -1,10 +1,11 @@
 //! What lies under the lock of a shared exporter: the exporter beside its history, and the book that counts the calls.
 ghost use Rattle.std.specs.List.{All};
-ghost use Rattle.pybuf_share.specs.Finishing.{parts_of, calls_of, IsOwn};
+ghost use Rattle.pybuf_share.specs.Finishing.{parts_of, calls_of, AreAll, IsOwn};
+ghost use Rattle.pybuf_share.specs.Sessions.{sessions_from};
 ghost use Rattle.std.specs.Prelude.{◌≡◌, ◌⊎◌, Err, ◌+◌, ◌<◌, ◌≤◌, ◌^◌, [], ◌∷◌, ◌++◌, length, IfOk, IfErr, OnOk, OnErr};
 
 use crate::checks::{check_sessions, order_fault};
-use crate::entries::{Entry, EntryList, Receipt};
+use crate::entries::{Entry, EntryList, Receipt, SharedCommand};
 use crate::joined::{FinishFault, Joined};
 use crate::session::Session;
 use pybuf_command::{ExporterKind, LocalCommand};
@@ -43,26 +44,21 @@ impl<L: Ledger> Model for Logged<L> {
     ghost invariant = { λ l. IsKept (record { kind = l.kind; opening = l.opening; entries = l.history.items }) l.state.exporter l.calls.total × (l.none.parts ≡ 0) };
 }
 
-/// A command twice.
-fn copied_twice(alloc: Global, command: &LocalCommand) -> Made<(LocalCommand, LocalCommand)>
+/// A copy of a command, held twice.
+fn held_twice(alloc: Global, command: &LocalCommand) -> Made<(SharedCommand, SharedCommand)>
     ensures { IfOk result (λ r. (r.0 ≡ command.now) × (r.1 ≡ command.now)) }
 {
-    let kept = command.copy(alloc)?;
-    match command.copy(alloc) {
-        Ok(own) => Ok((kept, own)),
-        Err(NoMemory) => {
-            // The command is dropped by a call. If it ended with its scope, the drop would spell out all its variants.
-            drop(kept);
-            Err(NoMemory)
-        }
-    }
+    let command = command.copy(alloc)?;
+    let own = SharedCommand::new(alloc, command)?;
+    let kept = own.copy(alloc)?;
+    Ok((kept, own))
 }
 
 impl<L: Ledger> Logged<L> {
     ghost use Rattle.pybuf_state.specs.Fits.{LoansFit};
     ghost use Rattle.pybuf_share.specs.History.{state_of, IsLegalLog, noted, receipt_now};
-    ghost use Rattle.pybuf_share.specs.Sessions.{sessions_from, received};
-    ghost use Rattle.pybuf_share.specs.Finishing.{AreAll, Agree, Refuses, IsJoined, ArePlain, AreTheirs};
+    ghost use Rattle.pybuf_share.specs.Sessions.{received};
+    ghost use Rattle.pybuf_share.specs.Finishing.{Agree, Refuses, IsJoined, ArePlain, AreTheirs};
 
     /// An exporter of a kind and of these bytes with no entry, and so many sessions, numbered from 0, each of which
     /// has one part of the ledger. The number of sessions is from 1 to 1,024.
@@ -86,11 +82,7 @@ impl<L: Ledger> Logged<L> {
         let opening = bytes.copy(alloc)?;
         let (calls, mut share) = blank.open::<L>();
         let none = share.empty();
-        let mut made = Vec::new(alloc);
-        for number in 0..sessions {
-            let part = share.split_off(1, 0);
-            made.push(Session::new(alloc, number as u64, part))?;
-        }
+        let made = sessions_by(alloc, share, sessions)?;
         let logged = Logged {
             kind,
             opening,
@@ -157,19 +149,19 @@ impl<L: Ledger> Logged<L> {
         ensures err { OnErr result (self.new ≡ self.old) }
         ensures err_amount { OnErr result (share.new.amount ≡ share.old.amount) }
     {
-        match copied_twice(self.alloc, command) {
+        match held_twice(self.alloc, command) {
             Ok((kept, own)) => self.note_kept(session, share, kept, own),
             Err(NoMemory) => Err(NoMemory),
         }
     }
 
-    /// The same of a command that is there twice: for the history, and for the receipt.
+    /// The same of a command that is held twice: for the history, and for the receipt.
     pub(crate) fn note_kept(
         &mut self,
         session: u64,
         share: &mut Share<L>,
-        kept: LocalCommand,
-        own: LocalCommand,
+        kept: SharedCommand,
+        own: SharedCommand,
     ) -> Made<Receipt>
         requires fit { LoansFit own.loans }
         requires same { kept ≡ own }
@@ -183,7 +175,7 @@ impl<L: Ledger> Logged<L> {
     {
         self.history.reserve(1)?;
         let at = self.history.len() as u64;
-        let (reply, copy) = self.state.step_copied(&own)?;
+        let (reply, copy) = self.state.step_copied(own.as_command())?;
         push_reserved(
             &mut self.history,
             Entry {
@@ -213,14 +205,9 @@ impl<L: Ledger> Logged<L> {
         ensures err { OnErr result (self.new ≡ self.old) }
         ensures err_session { OnErr result (session.new ≡ session.old) }
     {
-        match session.prepare(self.alloc, &command) {
-            Ok(kept) => session.ask(self, kept, command),
-            Err(NoMemory) => {
-                // The command is dropped by a call. If it ended with its scope, the drop would spell out all its
-                // variants.
-                drop(command);
-                Err(NoMemory)
-            }
+        match session.prepare(self.alloc, command) {
+            Ok((kept, own)) => session.ask(self, kept, own),
+            Err(NoMemory) => Err(NoMemory),
         }
     }
 
@@ -308,8 +295,29 @@ impl<L: Ledger> Logged<L> {
     }
 }
 
+/// So many new sessions, numbered from 0, each of which gets one part of the share.
+pub(crate) fn sessions_by<L: Ledger>(
+    alloc: Global,
+    share: Share<L>,
+    sessions: usize,
+) -> Made<Vec<Session<L>>>
+    requires most { sessions ≤ 1024 }
+    requires each { share.parts ≡ sessions }
+    requires nothing { share.amount ≡ 0 }
+    ensures sessions { IfOk result (λ made. made.items ≡ sessions_from 0 sessions) }
+    ensures all { IfOk result (λ made. AreAll share.parts made.items) }
+{
+    let mut share = share;
+    let mut made = Vec::new(alloc);
+    for number in 0..sessions {
+        let part = share.split_off(1, 0);
+        made.push(Session::new(alloc, number as u64, part))?;
+    }
+    Ok(made)
+}
+
 /// Adds the shares of all sessions together, by which the book has counted what they have.
-fn count_calls<L: Ledger>(calls: Book<L>, none: Share<L>, sessions: Vec<Session<L>>)
+pub(crate) fn count_calls<L: Ledger>(calls: Book<L>, none: Share<L>, sessions: Vec<Session<L>>)
     requires none { none.parts ≡ 0 }
     requires whole { parts_of sessions.items ≡ L.parts }
     ensures counted { calls.total ≡ calls_of sessions.items }

@@ -5,10 +5,12 @@ ghost use Rattle.std.specs.Option.{option_copied};
 ghost use Rattle.pybuf_share.specs.Finishing.{IsOwn};
 ghost use Rattle.pybuf_share.specs.Sessions.{view_given, iterator_given};
 
-use crate::entries::Receipt;
+use crate::begun::Begun;
+use crate::entries::{Receipt, SharedCommand};
 use crate::logged::Logged;
+use crate::part_log::PartLog;
 use pybuf_command::{LocalCommand, LocalReply};
-use pybuf_value::{Made, Twin, push_reserved};
+use pybuf_value::{Made, NoMemory, Twin, push_reserved};
 use std::alloc::Global;
 use std::marker::Model;
 use std::sync::ledger::{Ledger, Share};
@@ -161,16 +163,27 @@ impl<L: Ledger> Session<L> {
         Ok(())
     }
 
-    /// Takes the memory for one more receipt, and a copy of the command for the history, so that nobody waits for
-    /// either while the lock is held. The session is as before in every case.
-    pub(crate) fn prepare(&mut self, alloc: Global, command: &LocalCommand) -> Made<LocalCommand>
-        ensures copy { IfOk result (λ kept. kept ≡ command.now) }
+    /// Takes the memory for one more receipt, and for the command that the history and the receipt hold together, so
+    /// that nobody waits for either while the lock is held. The session is as before in every case.
+    pub(crate) fn prepare(
+        &mut self,
+        alloc: Global,
+        command: LocalCommand,
+    ) -> Made<(SharedCommand, SharedCommand)>
+        ensures kept { IfOk result (λ r. r.0 ≡ command) }
+        ensures own { IfOk result (λ r. r.1 ≡ command) }
         ensures same { self.new ≡ self.old }
     {
-        self.receipts.reserve(1)?;
-        self.views.reserve(1)?;
-        self.iterators.reserve(1)?;
-        command.copy(alloc)
+        match SharedCommand::new(alloc, command) {
+            Ok(own) => {
+                self.receipts.reserve(1)?;
+                self.views.reserve(1)?;
+                self.iterators.reserve(1)?;
+                let kept = own.copy(alloc)?;
+                Ok((kept, own))
+            }
+            Err(NoMemory) => Err(NoMemory),
+        }
     }
 
     /// Asks a command of the exporter, with the number and the share of the session; the receipt becomes its last.
@@ -178,8 +191,8 @@ impl<L: Ledger> Session<L> {
     pub(crate) fn ask(
         &mut self,
         logged: &mut Logged<L>,
-        kept: LocalCommand,
-        own: LocalCommand,
+        kept: SharedCommand,
+        own: SharedCommand,
     ) -> Made<()>
         requires fit { LoansFit own.loans }
         requires same { kept ≡ own }
@@ -195,6 +208,42 @@ impl<L: Ledger> Session<L> {
         self.views.reserve(1)?;
         self.iterators.reserve(1)?;
         let receipt = logged.note_kept(self.number, &mut self.share, kept, own)?;
+        receive(
+            &mut self.receipts,
+            &mut self.views,
+            &mut self.iterators,
+            receipt,
+        );
+        Ok(())
+    }
+}
+
+impl<L: Ledger + Begun> Session<L> {
+    ghost use Rattle.pybuf_state.specs.Fits.{LoansFit};
+    ghost use Rattle.pybuf_share.specs.Parts.{entry_from, receipt_from};
+    ghost use Rattle.pybuf_share.specs.Sessions.{received};
+
+    /// Asks a command of an exporter whose history is handed over in parts, as `ask` does.
+    pub(crate) fn ask_part(
+        &mut self,
+        log: &mut PartLog<L>,
+        kept: SharedCommand,
+        own: SharedCommand,
+    ) -> Made<()>
+        requires fit { LoansFit own.loans }
+        requires same { kept ≡ own }
+        ensures noted { OnOk result (log.new ≡ log.old ++ entry_from L.opening log.old self.old.number own ∷ []) }
+        ensures received { OnOk result (self.new ≡ received self.old (receipt_from L.opening log.old self.old.number own)) }
+        ensures err { OnErr result (log.new ≡ log.old) }
+        ensures err_session { OnErr result (self.new ≡ self.old) }
+        ensures number { self.new.number ≡ self.old.number }
+        ensures parts { self.new.parts ≡ self.old.parts }
+    {
+        // if the session was prepared, there is room already
+        self.receipts.reserve(1)?;
+        self.views.reserve(1)?;
+        self.iterators.reserve(1)?;
+        let receipt = log.note_kept(self.number, &mut self.share, kept, own)?;
         receive(
             &mut self.receipts,
             &mut self.views,

@@ -1,6 +1,7 @@
 //! One exporter that threads share.
 ghost use Rattle.std.specs.Prelude.{◌≡◌, ◌<◌, ◌≤◌, IfOk, IfErr, OnOk, OnErr};
 
+use crate::entries::SharedCommand;
 use crate::gate::{Gate, OpenGate};
 use crate::joined::{FinishFault, Joined};
 use crate::logged::Logged;
@@ -101,24 +102,19 @@ impl<L: Ledger> SharedExporter<L> {
         ensures number { session.new.number ≡ session.old.number }
         ensures parts { session.new.parts ≡ session.old.parts }
     {
-        match session.prepare(self.alloc, &command) {
-            Ok(kept) => self.call_prepared(rt, session, kept, command, gate),
-            Err(NoMemory) => {
-                // The command is dropped by a call. If it ended with its scope, the drop would spell out all its
-                // variants.
-                drop(command);
-                Err(NoMemory)
-            }
+        match session.prepare(self.alloc, command) {
+            Ok((kept, own)) => self.call_prepared(rt, session, kept, own, gate),
+            Err(NoMemory) => Err(NoMemory),
         }
     }
 
-    /// The same of a command that is there twice: for the history, and for the receipt.
+    /// The same of a command that is held twice: for the history, and for the receipt.
     fn call_prepared<R: Wait, G: Gate>(
         &self,
         rt: &R,
         session: &mut Session<L>,
-        kept: LocalCommand,
-        own: LocalCommand,
+        kept: SharedCommand,
+        own: SharedCommand,
         gate: &G,
     ) -> Made<()>
         requires fit { LoansFit own.loans }

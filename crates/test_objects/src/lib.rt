@@ -21,6 +21,8 @@ mod described;
 #[cfg(test)]
 mod exporters;
 #[cfg(test)]
+mod handing;
+#[cfg(test)]
 mod logging;
 #[cfg(test)]
 mod meetings;

@@ -3,7 +3,7 @@ ghost use Rattle.std.specs.Prelude.{◌≡◌};
 
 use crate::asking::{append, own};
 use pybuf_command::{ExporterKind, LocalReply, Verb};
-use pybuf_share::{Entry, FinishFault, Joined, Logged, Receipt, Session};
+use pybuf_share::{Entry, FinishFault, Joined, Logged, Receipt, Session, SharedCommand};
 use pybuf_value::{ByteList, Made};
 use std::alloc::Global;
 use std::marker::Brand;
@@ -22,7 +22,7 @@ fn note_and_show<L: Ledger>(
     logged.note_call(session, append(alloc, b'c'))?;
     let entry = Entry {
         session: 0,
-        command: own(alloc, Verb::Clear),
+        command: SharedCommand::new(alloc, own(alloc, Verb::Clear))?,
         reply: LocalReply::Ok,
     };
     session.add_receipt(Receipt { at: 1, entry })

@@ -2,7 +2,7 @@ use Rattle.std.proofs.Common.{rules, ◌≡◌, ◌≤◌, [], ◌∷◌, ◌++�
 use Rattle.pybuf_share.specs.Sessions.{Asker}
 use Rattle.pybuf_share.proofs.Faults.{all_made}
 use Rattle.pybuf_share.proofs.Sessions.{sessions_more}
-use Rattle.pybuf_share.proofs.logged.Logged.start.Goals as goal
+use Rattle.pybuf_share.proofs.logged.sessions_by.Goals as goal
 
 pub loop-number-preserved : goal.loop-number-preserved
 loop-number-preserved g c =
@@ -22,5 +22,5 @@ returns-clause-all g c =
     let past : c.args.sessions ≤ c.loop-number.number = search rules in
     let low = i.3 in
     let each = c.requires.each in
-    let many : c.loop-number.number ≡ c.args.blank.parts = omega (arith, past, low, each) in
-    all_made c.loop-number.made.items c.loop-number.number _ i.0 (many ∙ c.requires.parts)
+    let many : c.loop-number.number ≡ c.args.share.parts = omega (arith, past, low, each) in
+    all_made c.loop-number.made.items c.loop-number.number c.args.share.parts i.0 many
