@@ -1,5 +1,5 @@
 -- Forgetting by itself: what it changes and what it leaves.
-use Rattle.std.proofs.Common.{◌≡◌, ℕ, zero, suc, ◌+◌, ◌++◌, List, [], ◌∷◌, Bool, true, false, true≢false, ap, ap₂, sym, ◌∙◌, refl}
+use Rattle.std.proofs.Common.{◌≡◌, ℕ, zero, suc, ◌+◌, ◌++◌, List, [], ◌∷◌, Bool, true, false, true≢false, ap, ap₂, sym, ◌∙◌, refl, arith}
 use Rattle.std.specs.Prelude.{not, cond, count_by, length, map, set, slice_get, nat_lt, Option, Some, None, Result, Ok, if◌then◌else◌}
 use Rattle.std.specs.List.{All}
 use Rattle.std.specs.Option.{ok_or, option_map}
@@ -9,6 +9,7 @@ use Rattle.pybuf_value.specs.declared.faults.Fault.{Fault}
 use Rattle.pybuf_value.specs.declared.faults.Fault.TheVariants as fault
 use Rattle.pybuf_value.specs.Refusing.{◌>>=◌, unless}
 use Rattle.pybuf_desc.specs.Layouts.{Layout}
+use Rattle.pybuf_desc.specs.Apart.{HasItemsApart}
 use Rattle.pybuf_command.specs.declared.kinds.ExporterKind.{ExporterKind}
 use Rattle.pybuf_command.specs.declared.kinds.ExporterKind.TheVariants as kind
 use Rattle.pybuf_command.specs.declared.kinds.Subject.{Subject}
@@ -17,7 +18,7 @@ use Rattle.pybuf_state.specs.Laws.{WholeLayoutsAreSound}
 use Rattle.pybuf_state.specs.Exporter.{Exporter, new_exporter, View, Iterator, is_exported, exports_of, has_subject, view_at, live_layout, iterator_at}
 use Rattle.pybuf_state.specs.Sound.{IsSoundView}
 use Rattle.pybuf_forgetting.specs.Forgotten.{no_layout, forgotten_view, forgotten_subject, forgotten_iterator, forgotten}
-use Rattle.pybuf_forgetting.specs.Laws.{ForgettingTwiceIsForgettingOnce, ForgettingKeepsAllElse, ForgettingKeepsSound}
+use Rattle.pybuf_forgetting.specs.Laws.{ForgettingTwiceIsForgettingOnce, ForgettingKeepsAllElse, ForgettingKeepsItemsApart, ForgettingKeepsSound}
 
 -- ---- lists
 
@@ -185,3 +186,19 @@ sound_views whole k bytes (v ∷ views) all =
 
 pub sound_so : WholeLayoutsAreSound → ForgettingKeepsSound
 sound_so whole e sound = record { views = sound_views whole e.kind e.bytes e.views sound.views }
+
+-- ---- items that share no byte
+
+apart_view : (made_at : ℕ) (layout : Layout) (released : Bool) → HasItemsApart layout → HasItemsApart (forgotten_view (record { made_at = made_at; layout = layout; released = released })).layout
+apart_view made_at layout true apart = λ i j before below. absurd (omega (arith, below))
+apart_view made_at layout false apart = apart
+
+abbrev IsApart : View → Type 0
+IsApart v = HasItemsApart v.layout
+
+apart_views : (views : List View) → All IsApart views → All IsApart (map forgotten_view views)
+apart_views [] all = All-nil IsApart
+apart_views (v ∷ views) all = All-cons IsApart (forgotten_view v) (map forgotten_view views) (apart_view v.made_at v.layout v.released (All-head IsApart v views all)) (apart_views views (All-tail IsApart v views all))
+
+pub apart_so : ForgettingKeepsItemsApart
+apart_so e spaced = record { views = apart_views e.views spaced.views }

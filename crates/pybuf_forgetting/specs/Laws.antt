@@ -8,6 +8,7 @@ use Rattle.pybuf_command.specs.declared.commands.LocalCommand.{LocalCommand}
 use Rattle.pybuf_command.specs.declared.loans.Loan.{Loan}
 use Rattle.pybuf_state.specs.Exporter.{Exporter, View, Iterator, exports_of, has_subject, live_layout}
 use Rattle.pybuf_state.specs.Sound.{IsSoundExporter}
+use Rattle.pybuf_state.specs.Spaced.{IsSpaced}
 use Rattle.pybuf_state.specs.Snaps.{snap_of_subject}
 use Rattle.pybuf_exporter.specs.Step.{estep, estep_by}
 use Rattle.pybuf_exporter.specs.Stepping.{step_of}
@@ -38,6 +39,9 @@ ForgettingKeepsAllElse = (e : Exporter) → KeepsAllElse e (forgotten e)
 
 abbrev pub ForgettingKeepsSound : Type 0
 ForgettingKeepsSound = (e : Exporter) → IsSoundExporter e → IsSoundExporter (forgotten e)
+
+abbrev pub ForgettingKeepsItemsApart : Type 0
+ForgettingKeepsItemsApart = (e : Exporter) → IsSpaced e → IsSpaced (forgotten e)
 
 -- ---- one command
 

@@ -1,14 +1,5 @@
 //! The laws of forgetting.
-ghost use Rattle.pybuf_forgetting.specs.Laws.{
-  ForgettingChangesNoRun,
-  ForgettingChangesNoSnap,
-  ForgettingChangesNoStep,
-  ForgettingChangesNoStepByNames,
-  ForgettingKeepsAllElse,
-  ForgettingKeepsSound,
-  ForgettingTwiceIsForgettingOnce,
-  ForgottenLoansChangeNoStep,
-};
+ghost use Rattle.pybuf_forgetting.specs.Laws.{ForgettingChangesNoRun, ForgettingChangesNoSnap, ForgettingChangesNoStep, ForgettingChangesNoStepByNames, ForgettingKeepsAllElse, ForgettingKeepsItemsApart, ForgettingKeepsSound, ForgettingTwiceIsForgettingOnce, ForgottenLoansChangeNoStep};
 
 /// An exporter that has forgotten is no other after it forgets again.
 /// Example: of two released views of `b"abc"` both are the released view of no bytes, after the first time and after the second.
@@ -23,10 +14,11 @@ pub fn forgetting_keeps_all_else()
     ensures { ForgettingKeepsAllElse }
 {}
 
-/// A sound exporter is sound after it forgets.
+/// A sound exporter is sound after it forgets, and where no two items of any view share a byte, that stays so.
 /// Example: a released view of four bytes of the format `I` becomes one of no bytes of the format `B`, which is sound too.
 pub fn forgetting_keeps_sound()
-    ensures { ForgettingKeepsSound }
+    ensures sound { ForgettingKeepsSound }
+    ensures apart { ForgettingKeepsItemsApart }
 {
     pybuf_state::whole_layouts_are_sound();
 }
