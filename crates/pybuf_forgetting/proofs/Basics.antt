@@ -17,8 +17,8 @@ use Rattle.pybuf_command.specs.declared.kinds.Subject.TheVariants as subject
 use Rattle.pybuf_state.specs.Laws.{WholeLayoutsAreSound}
 use Rattle.pybuf_state.specs.Exporter.{Exporter, new_exporter, View, Iterator, is_exported, exports_of, has_subject, view_at, live_layout, iterator_at}
 use Rattle.pybuf_state.specs.Sound.{IsSoundView}
-use Rattle.pybuf_forgetting.specs.Forgotten.{no_layout, forgotten_view, forgotten_subject, forgotten_iterator, forgotten}
-use Rattle.pybuf_forgetting.specs.Laws.{ForgettingTwiceIsForgettingOnce, ForgettingKeepsAllElse, ForgettingKeepsItemsApart, ForgettingKeepsSound}
+use Rattle.pybuf_forgetting.specs.Forgotten.{no_layout, no_view, forgotten_view, forgotten_subject, forgotten_iterator, forgotten}
+use Rattle.pybuf_forgetting.specs.Laws.{ForgettingTwiceIsForgettingOnce, ForgettingKeepsAllElse, ForgettingKeepsItemsApart, ForgettingKeepsSound, ForgettingLeavesNothing}
 
 -- ---- lists
 
@@ -166,6 +166,36 @@ all_else e = record {
   iterators = λ k it found going. map_get forgotten_iterator e.iterators k ∙ ap (option_map forgotten_iterator) found ∙ ap (λ (x : Iterator). Some x) (going_stays it.subject it.position it.exhausted going);
   released = λ k. ap (option_map (λ (v : View). v.released)) (map_get forgotten_view e.views k) ∙ released_same (slice_get e.views k);
   exhausted = λ k. ap (option_map (λ (it : Iterator). it.exhausted)) (map_get forgotten_iterator e.iterators k) ∙ exhausted_same (slice_get e.iterators k);
+}
+
+-- ---- nothing else is left
+
+released_is_gone : (made_at : ℕ) (layout : Layout) (released : Bool) → released ≡ true → forgotten_view (record { made_at = made_at; layout = layout; released = released }) ≡ no_view
+released_is_gone made_at layout true is = refl
+released_is_gone made_at layout false is = absurd (true≢false (sym is))
+
+view_left : (o : Option View) (v : View) → option_map forgotten_view o ≡ Some v → v.released ≡ true → v ≡ no_view
+view_left None v found is = absurd (cc)
+view_left (Some w) v found is =
+    let same : forgotten_view w ≡ v = cc in sym same ∙ released_is_gone w.made_at w.layout w.released (ap (λ (x : View). x.released) same ∙ is)
+
+exhausted_at : (s : Subject) (position : ℕ) (exhausted : Bool) → exhausted ≡ true → forgotten_iterator (record { subject = s; position = position; exhausted = exhausted }) ≡ record { subject = forgotten_subject s; position = 0; exhausted = true }
+exhausted_at s position true is = refl
+exhausted_at s position false is = absurd (true≢false (sym is))
+
+iterator_left : (o : Option Iterator) (it : Iterator) → option_map forgotten_iterator o ≡ Some it → it.exhausted ≡ true → (s : Subject) × (it ≡ record { subject = forgotten_subject s; position = 0; exhausted = true })
+iterator_left None it found is = absurd (cc)
+iterator_left (Some w) it found is =
+    let same : forgotten_iterator w ≡ it = cc in (w.subject, sym same ∙ exhausted_at w.subject w.position w.exhausted (ap (λ (x : Iterator). x.exhausted) same ∙ is))
+
+left_subject : (s : Subject) (it : Iterator) → it ≡ record { subject = forgotten_subject s; position = 0; exhausted = true } → it.subject ≡ forgotten_subject it.subject
+left_subject s it is = ap (λ (x : Iterator). x.subject) is ∙ sym (subject_twice s) ∙ ap (λ (x : Iterator). forgotten_subject x.subject) (sym is)
+
+pub leaves_nothing : ForgettingLeavesNothing
+leaves_nothing e = record {
+  views = λ k v found. view_left (slice_get e.views k) v (sym (map_get forgotten_view e.views k) ∙ found);
+  positions = λ k it found is. ap (λ (x : Iterator). x.position) (iterator_left (slice_get e.iterators k) it (sym (map_get forgotten_iterator e.iterators k) ∙ found) is).1;
+  subjects = λ k it found is. let left = iterator_left (slice_get e.iterators k) it (sym (map_get forgotten_iterator e.iterators k) ∙ found) is in left_subject left.0 it left.1;
 }
 
 -- ---- soundness

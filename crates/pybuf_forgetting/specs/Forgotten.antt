@@ -14,7 +14,11 @@ use Rattle.pybuf_state.specs.Exporter.{Exporter, View, Iterator}
 abbrev pub no_layout : Layout
 no_layout = bytes_layout 0 true
 
--- Every released view becomes one and the same: a released view of no bytes, made at length 0. An unreleased view stays.
+-- a released view of no bytes, made at length 0
+abbrev pub no_view : View
+no_view = record { made_at = 0; layout = no_layout; released = true }
+
+-- Every released view becomes this one (`forgetting_leaves_nothing`). An unreleased view stays.
 abbrev pub forgotten_view : View → View
 forgotten_view v = record {
   made_at = if v.released then 0 else v.made_at;

@@ -1,5 +1,5 @@
 -- The laws of forgetting: it changes no reply, now or later.
-use Rattle.std.specs.Prelude.{◌≡◌, ℕ, Bool, false, List, [], ◌∷◌, length, map, Option, Some, slice_get, if◌then◌else◌}
+use Rattle.std.specs.Prelude.{◌≡◌, ℕ, Bool, true, false, List, [], ◌∷◌, length, map, Option, Some, slice_get, if◌then◌else◌}
 use Rattle.std.specs.Option.{option_map}
 use Rattle.pybuf_command.specs.declared.kinds.Subject.{Subject}
 use Rattle.pybuf_command.specs.declared.commands.Verb.{Verb}
@@ -12,7 +12,7 @@ use Rattle.pybuf_state.specs.Spaced.{IsSpaced}
 use Rattle.pybuf_state.specs.Snaps.{snap_of_subject}
 use Rattle.pybuf_exporter.specs.Step.{estep, estep_by}
 use Rattle.pybuf_exporter.specs.Stepping.{step_of}
-use Rattle.pybuf_forgetting.specs.Forgotten.{forgotten, forgotten_snap, forgotten_pair}
+use Rattle.pybuf_forgetting.specs.Forgotten.{no_view, forgotten_subject, forgotten, forgotten_snap, forgotten_pair}
 
 -- ---- forgetting by itself
 
@@ -33,6 +33,16 @@ pub record KeepsAllElse (e after : Exporter) : Type 0 where
   pub iterators : (k : ℕ) (it : Iterator) → slice_get e.iterators k ≡ Some it → it.exhausted ≡ false → slice_get after.iterators k ≡ Some it
   pub released : (k : ℕ) → option_map (λ (v : View). v.released) (slice_get after.views k) ≡ option_map (λ (v : View). v.released) (slice_get e.views k)
   pub exhausted : (k : ℕ) → option_map (λ (it : Iterator). it.exhausted) (slice_get after.iterators k) ≡ option_map (λ (it : Iterator). it.exhausted) (slice_get e.iterators k)
+
+-- What forgetting leaves of the rest: every released view is one and the same, and has no bytes. An exhausted iterator
+-- stands at 0, and if it goes over a view or an iterator, then over that of the number 0.
+pub record LeavesNothing (after : Exporter) : Type 0 where
+  pub views : (k : ℕ) (v : View) → slice_get after.views k ≡ Some v → v.released ≡ true → v ≡ no_view
+  pub positions : (k : ℕ) (it : Iterator) → slice_get after.iterators k ≡ Some it → it.exhausted ≡ true → it.position ≡ 0
+  pub subjects : (k : ℕ) (it : Iterator) → slice_get after.iterators k ≡ Some it → it.exhausted ≡ true → it.subject ≡ forgotten_subject it.subject
+
+abbrev pub ForgettingLeavesNothing : Type 0
+ForgettingLeavesNothing = (e : Exporter) → LeavesNothing (forgotten e)
 
 abbrev pub ForgettingKeepsAllElse : Type 0
 ForgettingKeepsAllElse = (e : Exporter) → KeepsAllElse e (forgotten e)

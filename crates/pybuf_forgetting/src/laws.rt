@@ -1,10 +1,16 @@
 //! The laws of forgetting.
-ghost use Rattle.pybuf_forgetting.specs.Laws.{ForgettingChangesNoRun, ForgettingChangesNoSnap, ForgettingChangesNoStep, ForgettingChangesNoStepByNames, ForgettingKeepsAllElse, ForgettingKeepsItemsApart, ForgettingKeepsSound, ForgettingTwiceIsForgettingOnce, ForgottenLoansChangeNoStep};
+ghost use Rattle.pybuf_forgetting.specs.Laws.{ForgettingChangesNoRun, ForgettingChangesNoSnap, ForgettingChangesNoStep, ForgettingChangesNoStepByNames, ForgettingKeepsAllElse, ForgettingKeepsItemsApart, ForgettingKeepsSound, ForgettingLeavesNothing, ForgettingTwiceIsForgettingOnce, ForgottenLoansChangeNoStep};
 
 /// An exporter that has forgotten is no other after it forgets again.
 /// Example: of two released views of `b"abc"` both are the released view of no bytes, after the first time and after the second.
 pub fn forgetting_twice_is_forgetting_once()
     ensures { ForgettingTwiceIsForgettingOnce }
+{}
+
+/// After forgetting all released views are one and the same view without bytes, and each exhausted iterator stands at 0.
+/// Example: of a view of four bytes of the format `I` that is released nothing is left but that it was released.
+pub fn forgetting_leaves_nothing()
+    ensures { ForgettingLeavesNothing }
 {}
 
 /// Forgetting leaves the kind and the bytes, all numbers, the number of unreleased views, each unreleased view and each
