@@ -3,7 +3,7 @@ use pybuf::{Answer, ByteStr, Fault, FormatSpec, Halt, PyByteArray, PyMemoryView,
 use pybuf_table::Records;
 use std::alloc::Global;
 use std::fmt::Write;
-use std::io::Read;
+use std::io::{self, Read};
 
 /// Writes the size and the type of each chunk of a PNG file.
 pub fn chunks(alloc: Global, file: &[u8], out: &mut String) -> Result<(), Halt> {
@@ -67,18 +67,18 @@ pub fn patch(file: &mut PyByteArray, out: &mut String) -> Result<(), Halt> {
 }
 
 /// Reads a file piece by piece into the same bytes, and writes how many bytes and lines it has.
-pub fn stream<R: Read>(alloc: Global, file: &mut R, out: &mut String) -> Result<(), Halt> {
+pub fn stream<R: Read>(alloc: Global, file: &mut R, out: &mut String) -> io::Result<()> {
     let mut array = PyByteArray::from(vec![in alloc; 0u8; 4096]?);
     let room = array.borrow_buf_mut();
     let (mut size, mut lines) = (0usize, 0usize);
     for _piece in 0..u64::MAX {
-        let count = file.read(room).unwrap_or(0);
+        let count = file.read(room)?;
         if count == 0 {
             break;
         }
         size = size.wrapping_add(count);
-        lines = lines.wrapping_add(ByteStr::new(room).count(b"\n", None, Some(count as isize)));
+        let end = isize::try_from(count).ok();
+        lines = lines.wrapping_add(ByteStr::new(room).count(b"\n", None, end));
     }
-    writeln!(out, "{size} {lines}")?;
-    Ok(())
+    Ok(writeln!(out, "{size} {lines}")?)
 }

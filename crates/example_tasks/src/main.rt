@@ -70,9 +70,12 @@ fn patch<R: Files + AllocGlobal>(rt: &R, out: &mut String) -> Result<(), Halt> {
 }
 
 fn stream<R: Files + AllocGlobal>(rt: &R, out: &mut String) -> Result<(), Halt> {
-    match fs::open(rt, "log.txt") {
-        Ok(mut file) => files::stream(rt.alloc(), &mut file, out),
-        Err(_) => Err(Halt::Refused(Fault::Index)),
+    let Ok(mut file) = fs::open(rt, "log.txt") else {
+        return Err(Halt::Refused(Fault::Index));
+    };
+    match files::stream(rt.alloc(), &mut file, out) {
+        Ok(()) => Ok(()),
+        Err(_) => Err(Halt::Refused(Fault::Value)),
     }
 }
 
