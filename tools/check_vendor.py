@@ -2,7 +2,7 @@
 """Makes a small repository, puts the library into it by `tools/vendor`, and builds a caller there.
 
     python3 tools/check_vendor.py             the caller is built and run without proof
-    python3 tools/check_vendor.py --proved    it is proved and run, which takes what the gate of this tree kept of the library
+    python3 tools/check_vendor.py --proved    `rt ci` proves and runs it, and takes what the gate of this tree kept of the library
 
 The caller changes a bytearray through a view, and has a clause that cites the library's. It has to print what Python prints for the same
 lines. Then everything is tried that `tools/vendor` has to refuse, and that it updates. The last line counts the checks.
@@ -10,6 +10,7 @@ lines. Then everything is tried that `tools/vendor` has to refuse, and that it u
 import os
 import pathlib
 import shutil
+import signal
 import subprocess
 import sys
 import tempfile
@@ -17,7 +18,7 @@ import tempfile
 sys.dont_write_bytecode = True
 
 ROOT = pathlib.Path(__file__).resolve().parent.parent
-SECONDS = 1200
+SECONDS = 900
 CALLER = """//! Adds a byte to a bytearray whose numbers were set through a view, and prints its bytes.
 #![tactic(auto)]
 
@@ -70,7 +71,15 @@ def check(name, holds, told=""):
 
 
 def run(*words, folder=ROOT):
-    return subprocess.run([str(it) for it in words], cwd=folder, stdin=subprocess.DEVNULL, capture_output=True, text=True, timeout=SECONDS)
+    """Runs a command. If it takes too long, it is ended with all that it started, and counts as failed."""
+    with subprocess.Popen([str(it) for it in words], cwd=folder, stdin=subprocess.DEVNULL, stdout=subprocess.PIPE, stderr=subprocess.PIPE, text=True, start_new_session=True) as it:
+        try:
+            written, complaint = it.communicate(timeout=SECONDS)
+        except subprocess.TimeoutExpired:
+            os.killpg(it.pid, signal.SIGKILL)
+            written, complaint = it.communicate()
+            complaint += f"it was ended after {SECONDS} seconds\n"
+    return subprocess.CompletedProcess(words, it.returncode, written, complaint)
 
 
 def vendor(folder):
@@ -189,8 +198,8 @@ def main(words):
             check("no tests, benchmarks, examples or programs come along", not strange and "crates/pybuf_program/src/main.rt" not in texts(top), strange[:5])
             check_updates(top)
             if words and keeps():
-                ran = run("rt", "ci", "caller", folder=top)
-                check("the caller is proved, and prints what Python prints", ran.returncode == 0, ran.stdout + ran.stderr)
+                ran = run("rt", "ci", folder=top)
+                check("the repository is proved, and the caller prints what Python prints", ran.returncode == 0, ran.stdout + ran.stderr)
             else:
                 if words:
                     skips.append("vendor, the proof of a caller: the kit keeps nothing of what the gate proved")
