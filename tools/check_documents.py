@@ -1,7 +1,7 @@
 """Compares what the documents show with what is run as a test, and ends with status 1 if they differ.
 
 - A block of Rust or of definitions has to stand word for word in a source of `crates/`.
-- A block of C, `rs` or Python has to be a file of `bindings/`.
+- A block of C, `rs` or Python has to be a file of `bindings/`. `tools/python_tasks.py` runs those of the cookbook.
 - A block of changes has to begin with the name of a file. This file has to have the lines before or after the change. A
   block that only takes lines out has to find them there, unless the changes of the document were made.
 - A must-fail edit that a document shows has to lie in a folder `must-fail/`, or to turn a line that a block of changes of
@@ -39,6 +39,8 @@ TOP = [ROOT / "README.md", ROOT / "CONTRIBUTING.md", ROOT / "CHANGELOG.md", ROOT
 # A pattern for the name of a crate.
 CRATE = r"(?:pybuf|test|golden|bench|example)_\w+"
 API = ROOT / "docs/reference/api"
+# The page whose Python `tools/python_tasks.py` runs.
+COOKBOOK = ROOT / "docs/tasks/cookbook.md"
 DOCUMENTS = TOP + sorted(path for path in (ROOT / "docs").glob("**/*.md") if API not in path.parents)
 # How many lines a page may have, how many words README may have, and how many words all pages may have that people write,
 # except for the list of changes.
@@ -116,7 +118,7 @@ def check_blocks(document, lines, kept):
             continue
         if language == "diff":
             changes.append((start, lines[start : number - 1]))
-        if language in BOUND:
+        if language in BOUND and document != COOKBOOK:
             block = "".join(part + "\n" for part in lines[start : number - 1])
             if not any(path.read_text() == block for path in (ROOT / "bindings").glob(BOUND[language])):
                 report(document, start, f"the block is no file of bindings/{BOUND[language]}")

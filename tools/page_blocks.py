@@ -8,7 +8,8 @@ A block stands between fences, or is indented by four blanks behind an empty lin
 - commands of a page to learn from, which `tools/run_pages.py` runs;
 - commands that run an example, `rt try < ../../examples/NAME`, or that pipe an input into the program, `pybuf`;
 - commands that run the first programs of the bindings, whose output stands in `bindings/`;
-- the blocks of `docs/tasks/install.md`, which `tools/check_release.py` runs;
+- the blocks of `docs/tasks/install.md`, which `tools/check_release.py` runs, and those of `docs/tasks/cookbook.md`, which
+  `tools/python_tasks.py` does;
 - must-fail edits, which begin with `file: `.
 
 Any other block has to have the line `<!-- not run: REASON -->` before it. Words may stand between them, but no other block.
@@ -27,7 +28,7 @@ EXPECTED = [
     (re.compile(r" {4}\$ .*python3 (first)\.py"), "bindings/python/{}.expected"),
 ]
 # Pages whose programs and commands a script of their own runs.
-FOLLOWED = {"docs/tasks/install.md": "tools/check_release.py"}
+FOLLOWED = {"docs/tasks/install.md": "tools/check_release.py", "docs/tasks/cookbook.md": "tools/python_tasks.py"}
 # What stands behind a command that is checked, in the same block.
 STATUS = re.compile(r" {4}\$ echo \$\?")
 

@@ -7,7 +7,8 @@
     ./test --list      the names of the parts
 
 It proves nothing. Its parts are each crate of tests and each program with stored output, which `rt try` builds and runs; the
-cases and examples; what the pages show; the sections of programs, compared with `readelf`; a release; and the bindings. As many parts
+cases and examples; what the pages show; the sections of programs, compared with `readelf`; a release; a repository into which the
+library is vendored; and the bindings. As many parts
 run side by side as there are processors, and memory for them. Each part has a line when it ends. If it failed, what it said stands
 below that line, with the command that repeats the part alone. A part that can't be run here is skipped, and the reason is said.
 
@@ -171,6 +172,7 @@ def parts(built):
     """All parts. If everything is built, the parts that `rt ci` has run are left out."""
     checks = [
         command_part("documents", "python3", "tools/check_documents.py"),
+        command_part("tasks", "python3", "tools/python_tasks.py", "--check"),
         command_part("items", "python3", "tools/check_items.py"),
         command_part("names", "python3", "tools/check_names.py"),
         command_part("boundaries", ".ci/boundaries"),
@@ -184,6 +186,7 @@ def parts(built):
             command_part("bindings-build", "bindings/build", "--after-ci"),
             command_part("bindings", "bindings/test"),
             command_part("release", "python3", "tools/check_release.py"),
+            command_part("vendor", "python3", "tools/check_vendor.py", "--proved"),
         ]
     return [
         command_part("cases", "python3", "tools/run_cases.py", "--unproved"),
@@ -195,6 +198,7 @@ def parts(built):
         command_part("sections", "python3", "tools/compare_sections.py", "--stored"),
         command_part("exports", "python3", "bindings/check_exports.py"),
         command_part("release", "python3", "tools/check_release.py", "--stand-in"),
+        command_part("vendor", "python3", "tools/check_vendor.py"),
         skipped_part("bindings", "bindings/build && bindings/test", "rt builds a static library of a proved crate alone; `.ci/run` runs them"),
     ]
 
