@@ -1,55 +1,58 @@
 //! What a thread asks of an exporter under a lock that keeps no history.
 ghost use Rattle.std.specs.Prelude.{◌<◌};
+ghost use Rattle.pybuf_state.specs.Fits.{LoansFit};
 
 use crate::plan::Plan;
-use pybuf_command::{ExporterKind, LoanList, LocalCommand, Subject, Verb};
+use crate::rounds::Round;
+use pybuf_command::{ExporterKind, LocalCommand};
 use pybuf_locked::{Anything, LockedExporter};
-use pybuf_value::{ByteList, Made, NoMemory, Scalar, Value};
+use pybuf_value::{ByteList, Made, NoMemory};
 use std::alloc::Global;
 use std::sync::Wait;
 use std::thread;
 use std::thread::Threads;
 
-pub(crate) fn number(number: i128) -> Value {
-    Value::One(Scalar::Int(number))
-}
-
-/// Asks a command to which nothing is lent.
-fn ask<R: Wait>(rt: &R, alloc: Global, shared: &LockedExporter<Anything>, verb: Verb) -> Made<()> {
-    let command = LocalCommand {
-        subject: Subject::Own,
-        verb,
-        loans: LoanList::new(alloc),
-    };
-    let replied = shared.call(rt, &command).is_ok();
-    drop(command);
-    if replied { Ok(()) } else { Err(NoMemory) }
+/// Asks a command.
+fn ask<R: Wait>(rt: &R, shared: &LockedExporter<Anything>, command: &LocalCommand) -> Made<()>
+    requires { LoansFit command.now.loans }
+{
+    if shared.call(rt, command).is_ok() {
+        Ok(())
+    } else {
+        Err(NoMemory)
+    }
 }
 
 fn ask_round<R: Wait>(
     rt: &R,
-    alloc: Global,
     shared: &LockedExporter<Anything>,
-    byte: i128,
+    round: &Round,
+    pops: bool,
 ) -> Made<()> {
-    ask(rt, alloc, shared, Verb::Get { key: number(0) })?;
-    ask(
-        rt,
-        alloc,
-        shared,
-        Verb::Set {
-            key: number(0),
-            value: number(byte),
-        },
-    )?;
-    ask(
-        rt,
-        alloc,
-        shared,
-        Verb::Append {
-            value: number(byte),
-        },
-    )
+    ask(rt, shared, &round.get)?;
+    ask(rt, shared, &round.set)?;
+    ask(rt, shared, &round.append)?;
+    if pops {
+        ask(rt, shared, &round.pop)
+    } else {
+        Ok(())
+    }
+}
+
+fn ask_rounds<R: Wait>(
+    rt: &R,
+    shared: &LockedExporter<Anything>,
+    round: &mut Round,
+    rounds: u64,
+    pops: bool,
+) -> Made<usize> {
+    let mut commands = 0usize;
+    for number in 0..rounds {
+        round.write((number % 256) as u8);
+        ask_round(rt, shared, round, pops)?;
+        commands = commands.wrapping_add(if pops { 4 } else { 3 });
+    }
+    Ok(commands)
 }
 
 /// The number of commands of so many rounds. Where `pops` holds, each round takes the byte out again that it added.
@@ -60,16 +63,8 @@ fn commands_of<R: Wait>(
     rounds: u64,
     pops: bool,
 ) -> Made<usize> {
-    let mut commands = 0usize;
-    for round in 0..rounds {
-        ask_round(rt, alloc, shared, (round % 256) as i128)?;
-        commands = commands.wrapping_add(3);
-        if pops {
-            ask(rt, alloc, shared, Verb::Pop { index: None })?;
-            commands = commands.wrapping_add(1);
-        }
-    }
-    Ok(commands)
+    let mut round = Round::new(alloc);
+    ask_rounds(rt, shared, &mut round, rounds, pops)
 }
 
 /// The same; none where there is too little memory.

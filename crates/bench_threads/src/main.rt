@@ -15,6 +15,7 @@ mod asking;
 mod locking;
 mod owning;
 mod plan;
+mod rounds;
 
 use asking::{replies_of_each, replies_of_one};
 use locking::{commands_of_locked, readings_of_locked};

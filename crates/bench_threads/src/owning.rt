@@ -1,55 +1,49 @@
 //! What a thread asks of an exporter that is its own, and under no lock.
-ghost use Rattle.std.specs.Prelude.{◌≡◌, ◌<◌, []};
+ghost use Rattle.std.specs.Prelude.{◌<◌};
+ghost use Rattle.pybuf_state.specs.Fits.{LoansFit};
 
-use crate::locking::{number, rooms, sum_of};
+use crate::locking::{rooms, sum_of};
 use crate::plan::Plan;
-use pybuf_command::{ExporterKind, LoanList, LocalCommand, Subject, Verb};
+use crate::rounds::Round;
+use pybuf_command::{ExporterKind, LocalCommand};
 use pybuf_exporter::ExporterState;
 use pybuf_value::{ByteList, Made, NoMemory};
 use std::alloc::Global;
 use std::thread;
 use std::thread::Threads;
 
-/// Asks a command to which nothing is lent.
-fn ask(alloc: Global, own: &mut ExporterState, verb: Verb) -> Made<()> {
-    let command = LocalCommand {
-        subject: Subject::Own,
-        verb,
-        loans: LoanList::new(alloc),
-    };
-    let replied = own.step(&command).is_ok();
-    drop(command);
-    if replied { Ok(()) } else { Err(NoMemory) }
+/// Asks a command.
+fn ask(own: &mut ExporterState, command: &LocalCommand) -> Made<()>
+    requires { LoansFit command.now.loans }
+{
+    if own.step(command).is_ok() {
+        Ok(())
+    } else {
+        Err(NoMemory)
+    }
 }
 
-fn ask_round(alloc: Global, own: &mut ExporterState, byte: i128) -> Made<()> {
-    ask(alloc, own, Verb::Get { key: number(0) })?;
-    ask(
-        alloc,
-        own,
-        Verb::Set {
-            key: number(0),
-            value: number(byte),
-        },
-    )?;
-    ask(
-        alloc,
-        own,
-        Verb::Append {
-            value: number(byte),
-        },
-    )
+fn ask_round(own: &mut ExporterState, round: &Round) -> Made<()> {
+    ask(own, &round.get)?;
+    ask(own, &round.set)?;
+    ask(own, &round.append)
+}
+
+fn ask_rounds(own: &mut ExporterState, round: &mut Round, rounds: u64) -> Made<usize> {
+    let mut commands = 0usize;
+    for number in 0..rounds {
+        round.write((number % 256) as u8);
+        ask_round(own, round)?;
+        commands = commands.wrapping_add(3);
+    }
+    Ok(commands)
 }
 
 fn commands_of(alloc: Global, rounds: u64) -> Made<usize> {
     let bytes = ByteList::from_slice(alloc, b"a")?;
     let mut own = ExporterState::new(alloc, ExporterKind::ByteArray, bytes);
-    let mut commands = 0usize;
-    for round in 0..rounds {
-        ask_round(alloc, &mut own, (round % 256) as i128)?;
-        commands = commands.wrapping_add(3);
-    }
-    Ok(commands)
+    let mut round = Round::new(alloc);
+    ask_rounds(&mut own, &mut round, rounds)
 }
 
 /// The number of commands of an exporter that one thread has; none where there is too little memory.
