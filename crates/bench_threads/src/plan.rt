@@ -4,11 +4,30 @@ ghost use Rattle.std.specs.Prelude.{◌<◌, ◌≤◌};
 use std::env;
 use std::env::Env;
 
+/// What the threads of a run ask, and whom.
+#[derive(Clone, Copy)]
+pub enum Form {
+    /// All of the following, one after the other.
+    All,
+    /// All ask one exporter that keeps a history.
+    One,
+    /// Each asks one of its own that keeps a history.
+    Each,
+    /// Each asks one of its own, under no lock.
+    Own,
+    /// All ask one exporter that keeps no history.
+    Locked,
+    /// The same, and each takes a byte out again for each byte that it adds.
+    Soak,
+    /// All read one exporter that keeps no history.
+    Reads,
+}
+
 /// How many threads there are, and what each does.
 #[derive(Clone, Copy)]
 pub struct Plan {
-    /// Whether all ask one exporter; else each has one of its own.
-    pub is_shared: bool,
+    /// What they ask, and whom.
+    pub form: Form,
     /// The number of threads.
     pub threads: usize,
     /// The number of rounds that each makes.
@@ -46,16 +65,29 @@ fn threads_of(words: &[String]) -> usize
     number as usize
 }
 
+/// The form that a word names.
+fn form_of(word: Option<&String>) -> Form {
+    match word {
+        Some(word) => match word.as_str() {
+            "all" => Form::All,
+            "each" => Form::Each,
+            "own" => Form::Own,
+            "locked" => Form::Locked,
+            "soak" => Form::Soak,
+            "reads" => Form::Reads,
+            _ => Form::One,
+        },
+        None => Form::One,
+    }
+}
+
 /// What the words ask for.
 pub fn plan_of(words: &[String]) -> Plan
     ensures some { 0 < result.threads }
     ensures most { result.threads ≤ 1024 }
 {
     Plan {
-        is_shared: match words.first() {
-            Some(word) => word.as_str() == "one",
-            None => true,
-        },
+        form: form_of(words.first()),
         threads: threads_of(words),
         rounds: number_or(words.get(2), 1),
     }

@@ -21,6 +21,7 @@ pub struct LockedExporter<I: Invariant> {
 }
 
 impl<I: Invariant> LockedExporter<I> {
+    ghost use Rattle.std.specs.Sync.RwLock.{read_guard_value, write_guard_value};
     ghost use Rattle.pybuf_state.specs.Exporter.{new_exporter};
     ghost use Rattle.pybuf_state.specs.Fits.{LoansFit};
     ghost use Rattle.pybuf_locked.specs.Locked.{KeepsInvariant, IsReplied};
@@ -60,17 +61,27 @@ impl<I: Invariant> LockedExporter<I> {
     }
 
     /// The lock, taken to carry out commands. No other thread holds it meanwhile. It waits while another thread holds
-    /// it, and it is given back when the answer ends. A thread that holds it already waits for ever.
+    /// it, and it is given back when the answer ends. A thread that holds it already waits for ever. The invariant holds
+    /// of what is found.
     /// Example: `shared.write(rt).step(&command)` carries out one command.
-    pub fn write<R: Wait>(&self, rt: &R) -> RwLockWriteGuard<'_, Guarded<I>> {
-        self.lock.write(rt)
+    pub fn write<R: Wait>(&self, rt: &R) -> RwLockWriteGuard<'_, Guarded<I>>
+        ensures { I.holds (write_guard_value result).fact (write_guard_value result).state.exporter }
+    {
+        let guarded = self.lock.write(rt);
+        let _ = guarded.fact();
+        guarded
     }
 
     /// The lock, taken to read. Other threads may hold it to read at the same time. It waits while another thread
-    /// holds it to write, or waits to do so, and it is given back when the answer ends.
+    /// holds it to write, or waits to do so, and it is given back when the answer ends. The invariant holds of what is
+    /// found.
     /// Example: `shared.read(rt).state().bytes()` lends the bytes to one of many readers.
-    pub fn read<R: Wait>(&self, rt: &R) -> RwLockReadGuard<'_, Guarded<I>> {
-        self.lock.read(rt)
+    pub fn read<R: Wait>(&self, rt: &R) -> RwLockReadGuard<'_, Guarded<I>>
+        ensures { I.holds (read_guard_value result).fact (read_guard_value result).state.exporter }
+    {
+        let guarded = self.lock.read(rt);
+        let _ = guarded.fact();
+        guarded
     }
 
     /// The exporter and the value, given back to one thread. Nothing is copied. It waits for nobody, since whoever
