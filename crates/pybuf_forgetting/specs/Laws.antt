@@ -1,6 +1,10 @@
 -- The laws of forgetting: it changes no reply, now or later.
 use Rattle.std.specs.Prelude.{◌≡◌, ℕ, Bool, true, false, List, [], ◌∷◌, length, map, Option, Some, slice_get, if◌then◌else◌}
 use Rattle.std.specs.Option.{option_map}
+use Rattle.pybuf_value.specs.declared.snaps.Snap.{Snap}
+use Rattle.pybuf_value.specs.declared.values.Value.{Value}
+use Rattle.pybuf_value.specs.Snaps.{snap_of}
+use Rattle.pybuf_bytes.specs.Options.{bytes_of_options}
 use Rattle.pybuf_command.specs.declared.kinds.Subject.{Subject}
 use Rattle.pybuf_command.specs.declared.commands.Verb.{Verb}
 use Rattle.pybuf_command.specs.declared.commands.LocalReply.{LocalReply}
@@ -78,6 +82,15 @@ ForgettingChangesNoSnap = (e : Exporter) (s : Subject) → option_map forgotten_
 -- A command does the same if the other exporters have forgotten.
 abbrev pub ForgottenLoansChangeNoStep : Type 0
 ForgottenLoansChangeNoStep = (e : Exporter) (s : Subject) (v : Verb) (loans : List (ℕ × Loan)) → estep e s v (map forgotten_pair loans) ≡ estep e s v loans
+
+-- Two lists of pairs name the same for each handle once released views are forgotten.
+abbrev pub NameAlike : List (ℕ × Snap) → List (ℕ × Snap) → Type 0
+NameAlike pairs others = (h : ℕ) → option_map forgotten_snap (snap_of pairs h) ≡ option_map forgotten_snap (snap_of others h)
+
+-- The bytes that something new is made of are the same with either.
+abbrev pub ForgottenPairsChangeNoBytes : Type 0
+ForgottenPairsChangeNoBytes =
+    (pairs others : List (ℕ × Snap)) (source encoding errors : Option Value) → NameAlike pairs others → bytes_of_options pairs source encoding errors ≡ bytes_of_options others source encoding errors
 
 -- ---- runs
 

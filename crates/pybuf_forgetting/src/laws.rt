@@ -1,5 +1,5 @@
 //! The laws of forgetting.
-ghost use Rattle.pybuf_forgetting.specs.Laws.{ForgettingChangesNoRun, ForgettingChangesNoSnap, ForgettingChangesNoStep, ForgettingChangesNoStepByNames, ForgettingKeepsAllElse, ForgettingKeepsItemsApart, ForgettingKeepsSound, ForgettingLeavesNothing, ForgettingTwiceIsForgettingOnce, ForgottenLoansChangeNoStep};
+ghost use Rattle.pybuf_forgetting.specs.Laws.{ForgettingChangesNoRun, ForgettingChangesNoSnap, ForgettingChangesNoStep, ForgettingChangesNoStepByNames, ForgettingKeepsAllElse, ForgettingKeepsItemsApart, ForgettingKeepsSound, ForgettingLeavesNothing, ForgettingTwiceIsForgettingOnce, ForgottenLoansChangeNoStep, ForgottenPairsChangeNoBytes};
 
 /// An exporter that has forgotten is no other after it forgets again.
 /// Example: of two released views of `b"abc"` both are the released view of no bytes, after the first time and after the second.
@@ -35,6 +35,12 @@ pub fn forgetting_keeps_sound()
 pub fn forgetting_changes_no_reply()
     ensures loans { ForgettingChangesNoStep }
     ensures names { ForgettingChangesNoStepByNames }
+{}
+
+/// What is made from the bytes of a handle has the same bytes where released views that handles name were forgotten.
+/// Example: `bytearray` of the handle of a released view is refused with `ValueError`, as before.
+pub fn forgotten_pairs_change_no_bytes()
+    ensures { ForgottenPairsChangeNoBytes }
 {}
 
 /// A command does the same where the other exporters that lend to it have forgotten.
