@@ -1,8 +1,9 @@
 //! One view that borrows its exporter.
-ghost use Rattle.std.specs.Prelude.{◌≡◌, None, IfOk, IfErr};
+ghost use Rattle.std.specs.Prelude.{◌≡◌, None, Ok, IfOk, IfErr};
 ghost use Rattle.std.specs.Borrow.{sem};
 ghost use Rattle.pybuf_value.specs.declared.halt.Halt.TheVariants as halts;
 ghost use Rattle.pybuf_command.specs.declared.kinds.Subject.TheVariants as subjects;
+ghost use Rattle.pybuf_command.specs.declared.commands.LocalReply.TheVariants as replies;
 ghost use Rattle.pybuf_state.specs.Answers.{as_done, as_item, as_bytes};
 ghost use Rattle.pybuf_state.specs.Live.{layout_of};
 ghost use Rattle.pybuf_state.specs.Snaps.{snap_of_subject};
@@ -19,6 +20,7 @@ ghost use Rattle.pybuf_scoped.specs.declared.stop.Cause.{Cause};
 ghost use Rattle.pybuf_scoped.specs.Stops.{halted, Tells, Lent};
 ghost use Rattle.pybuf_scoped.specs.Views.{entries_of};
 
+use crate::owner::Owner;
 use crate::stop::{Cause, Stop};
 use pybuf_command::Subject;
 use pybuf_exporter::ExporterState;
@@ -37,71 +39,57 @@ pub(crate) fn entries(state: &ExporterState, view: usize) -> usize
     }
 }
 
-/// A view that borrows its exporter: while it lives, nothing else can read, write or resize the exporter, and where it
-/// is dropped it is released. It is Python's `with memoryview(object) as view:`.
+/// A view that borrows what owns its exporter: while it lives, nothing else can read, write or resize that, and where
+/// the view is dropped it is released. It is Python's `with memoryview(object) as view:`.
 ///
-/// A call that gives nothing answers a `Stop`, which tells the refusal and what was asked; nothing is changed then, nor
-/// where memory runs out.
-/// Example: `View::of(array.state_mut())?` is a view of all bytes of `array`, until it is dropped.
-pub struct View<'a> {
-    state: &'a mut ExporterState,
+/// A call that gives nothing answers a `Stop`, which tells the refusal and what was asked; the exporter is as before
+/// then.
+/// Example: `View::of(&mut array)?` is a view of all bytes of `array`, until it is dropped.
+pub struct View<'a, O: Owner> {
+    owner: &'a mut O,
     number: usize,
 }
 
 /// Releases the view. Its exporter changes in nothing else.
-impl Drop for View<'_> {
-    ghost use Rattle.pybuf_scoped.specs.Views.{lender_of, stored_after_scope};
+impl<'a, O: Owner> Drop for View<'a, O> {
+    ghost use Rattle.pybuf_scoped.specs.Views.{EndsWith, after_scope};
 
     fn drop(self)
-        ensures { self.exit.0.now ≡ stored_after_scope (lender_of self.entry) self.entry.number }
+        ensures { EndsWith O.with self.entry.owner.now (after_scope (O.exporter self.entry.owner.now) self.entry.number) self.exit.0.now }
     {
-        let View { state, number } = self;
-        match state.release_view(number) {
+        let View { owner, number } = self;
+        match owner.exporter_mut().release_view(number) {
             Ok(()) => (),
             Err(_) => (),
         }
     }
 }
 
-impl<'a> View<'a> {
-    ghost use Rattle.pybuf_scoped.specs.Views.{StaysIfStopped, LendsView, MakesView, SlicesView, AssignsBytes, lender_of, name_of, stored_after_scope};
+impl<'a, O: Owner> View<'a, O> {
+    ghost use Rattle.pybuf_scoped.specs.Views.{EndsWith};
 
-    /// A view of all bytes of an exporter, as Python's `memoryview(object)`. It is never refused, and stops only where
-    /// memory runs out.
-    /// Example: `View::of(array.state_mut())?` of `bytearray(b"abc")` has the items 97, 98 and 99.
-    pub fn of(state: &'a mut ExporterState) -> Result<View<'a>, Stop>
-        ensures* stopped { sem 𝓛 (StaysIfStopped state.entry result) }
-        ensures same_reference { IfOk result (λ view. name_of view ≡ state.entry.ghost_name) }
-        ensures made { MakesView state.old view_of_own result }
-        ensures room { IfOk result (λ view. (lender_of view).room ≡ state.old.room) }
+    /// A view of all bytes, as Python's `memoryview(object)`. It is never refused, and stops only where memory runs
+    /// out.
+    /// Example: `View::of(&mut array)?` of `bytearray(b"abc")` has the items 97, 98 and 99.
+    pub fn of(owner: &'a mut O) -> Result<View<'a, O>, Stop>
+        ensures same_reference { IfOk result (λ view. view.owner.ghost_name ≡ owner.entry.ghost_name) }
+        ensures made { IfOk result (λ view. view_of_own (O.exporter owner.old) ≡ Ok (O.exporter view.owner.now, replies.View view.number)) }
+        ensures owner { IfOk result (λ view. EndsWith O.with owner.old (O.exporter view.owner.now) view.owner.now) }
         ensures memory { IfErr result (λ stop. stop.halt ≡ halts.NoMemory) }
         ensures cause { Tells Cause.Whole result }
     {
-        match state.add_whole() {
-            Ok(number) => Ok(View { state, number }),
+        match owner.exporter_mut().add_whole() {
+            Ok(number) => Ok(View { owner, number }),
             Err(halt) => Err(Stop::new(halt, Cause::Whole)),
         }
     }
 
-    /// The item at an index, as Python's `view[index]`, where a negative index counts from the end.
-    ///
-    /// Refused with `TypeError` where it has no dimension and with `NotImplementedError` where it has several, and
-    /// then with `IndexError` out of range.
-    /// Example: of the items 1, 2, 3 in the format `H` the index -1 gives `Item::One(Scalar::Int(3))`.
-    pub fn get(&self, index: isize) -> Result<Item, Stop>
-        ensures answer { StateReads (lender_of self.now) (λ e. item_at_index e self.now.number index) (as_item (halted result)) }
-        ensures cause { Tells (Cause.Index index (entries_of (lender_of self.now).exporter self.now.number)) result }
+    /// The number of entries of the first dimension, as Python's `len(view)`, and 0 if it has none. Takes no memory.
+    /// Example: of a view of `b"abc"` it is 3.
+    pub fn len(&self) -> usize
+        ensures { result ≡ entries_of (O.exporter self.now.owner.now) self.now.number }
     {
-        match self.state.item(self.number, index) {
-            Ok(item) => Ok(item),
-            Err(halt) => Err(Stop::new(
-                halt,
-                Cause::Index {
-                    index,
-                    length: self.len(),
-                },
-            )),
-        }
+        entries(self.owner.exporter(), self.number)
     }
 
     /// Writes a number as the item at an index, as Python's `view[index] = number`.
@@ -110,14 +98,14 @@ impl<'a> View<'a> {
     /// where the format of the items doesn't take the number.
     /// Example: in the format `H` the index 0 and the number 513 write `b"\x01\x02"`, and 65,536 is refused with `TypeError`.
     pub fn set(&mut self, index: isize, number: i128) -> Result<(), Stop>
-        ensures same_reference { name_of self.new ≡ name_of self.old }
+        ensures same_reference { self.new.owner.ghost_name ≡ self.old.owner.ghost_name }
         ensures number { self.new.number ≡ self.old.number }
-        ensures answer { TellsRefusal (number_put (lender_of self.old).exporter self.old.number index number) (lender_of self.old).exporter (halted result) (lender_of self.new).exporter }
-        ensures room { (lender_of self.new).room ≡ (lender_of self.old).room }
-        ensures cause { Tells (Cause.Number number index (entries_of (lender_of self.old).exporter self.old.number)) result }
+        ensures answer { TellsRefusal (number_put (O.exporter self.old.owner.now) self.old.number index number) (O.exporter self.old.owner.now) (halted result) (O.exporter self.new.owner.now) }
+        ensures owner { EndsWith O.with self.old.owner.now (O.exporter self.new.owner.now) self.new.owner.now }
+        ensures cause { Tells (Cause.Number number index (entries_of (O.exporter self.old.owner.now) self.old.number)) result }
     {
         let length = self.len();
-        match self.state.put_number(self.number, index, number) {
+        match self.owner.exporter_mut().put_number(self.number, index, number) {
             Ok(()) => Ok(()),
             Err(halt) => Err(Stop::new(
                 halt,
@@ -128,93 +116,5 @@ impl<'a> View<'a> {
                 },
             )),
         }
-    }
-
-    /// A view of the items that a slice picks along the first dimension, as Python's `view[1:4]`. It shares the bytes,
-    /// and borrows this view until it is dropped.
-    ///
-    /// Refused with `TypeError` where it has no dimension, and then with `ValueError` for a step of 0.
-    /// Example: of a view of `b"abcdef"` the slice `1..4` gives a view of `b"bcd"`.
-    pub fn slice<S: Into<PySlice>>(&mut self, slice: S) -> Result<View<'_>, Stop>
-        ensures* borrows { sem 𝓛 (LendsView self.entry result) }
-        ensures made { SlicesView (S.converts slice) (lender_of self.old) self.old.number result }
-        ensures cause { Tells (Cause.Slice (entries_of (lender_of self.old).exporter self.old.number)) result }
-    {
-        let length = self.len();
-        match self.state.add_slice(self.number, &slice.into()) {
-            Ok(number) => Ok(View {
-                state: &mut *self.state,
-                number,
-            }),
-            Err(halt) => Err(Stop::new(halt, Cause::Slice { length })),
-        }
-    }
-
-    /// Writes bytes over the items that a slice picks, as Python's `view[1:4] = bytes`.
-    ///
-    /// Refused with `TypeError` where it may only be read or has no dimension, with `NotImplementedError` where it has
-    /// several, and with `ValueError` for a step of 0, for items of another format than `B` and where the bytes are not
-    /// as many as the items.
-    /// Example: over a view of `b"abcdef"` the slice `0..2` and the bytes `b"12"` make `b"12cdef"`.
-    pub fn assign<S: Into<PySlice>>(&mut self, slice: S, bytes: &[u8]) -> Result<(), Stop>
-        ensures same_reference { name_of self.new ≡ name_of self.old }
-        ensures number { self.new.number ≡ self.old.number }
-        ensures answer { AssignsBytes (S.converts slice) self.old.number bytes.now (lender_of self.old) result (lender_of self.new) }
-        ensures room { (lender_of self.new).room ≡ (lender_of self.old).room }
-    {
-        let length = self.len();
-        match self.state.assign_bytes(self.number, &slice.into(), bytes) {
-            Ok(()) => Ok(()),
-            Err(halt) => Err(Stop::new(
-                halt,
-                Cause::Bytes {
-                    given: bytes.len(),
-                    length,
-                },
-            )),
-        }
-    }
-
-    /// The bytes of the items, with the last dimension running fastest, as Python's `view.tobytes()`. It stops only
-    /// where memory runs out.
-    /// Example: of the view `memoryview(b"abcdef")[::-2]` it has the bytes `b"fdb"`.
-    pub fn to_vec(&self) -> Result<Vec<u8>, Stop>
-        ensures answer { StateReads (lender_of self.now) (λ e. bytes_of_view e self.now.number None) (as_bytes (halted result)) }
-        ensures cause { Tells Cause.Content result }
-    {
-        match self.state.content(self.number) {
-            Ok(bytes) => Ok(bytes),
-            Err(halt) => Err(Stop::new(halt, Cause::Content)),
-        }
-    }
-
-    /// The bytes of the items, lent without a copy. Takes no memory.
-    ///
-    /// Refused with `TypeError` where the items don't lie one after the other.
-    /// Example: of the slice `1..4` of a view of `b"abcdef"` it is `b"bcd"`.
-    pub fn bytes(&self) -> Result<&[u8], Stop>
-        ensures answer { Lent (content_of (snap_of_subject (lender_of self.now).exporter (subjects.View self.now.number))) result }
-        ensures cause { Tells Cause.Content result }
-    {
-        match self.state.run_of(Subject::View(self.number)) {
-            Ok(bytes) => Ok(bytes),
-            Err(fault) => Err(Stop::new(Halt::Refused(fault), Cause::Content)),
-        }
-    }
-
-    /// The number of entries of the first dimension, as Python's `len(view)`, and 0 if it has none. Takes no memory.
-    /// Example: of a view of `b"abc"` it is 3.
-    pub fn len(&self) -> usize
-        ensures { result ≡ entries_of (lender_of self.now).exporter self.now.number }
-    {
-        entries(self.state, self.number)
-    }
-
-    /// Ends the view, as Python's `view.release()`. A view that is dropped ends in the same way.
-    /// Example: after `view.release()` the bytearray can be resized again.
-    pub fn release(self)
-        ensures { self.exit.0.now ≡ stored_after_scope (lender_of self.entry) self.entry.number }
-    {
-        drop(self);
     }
 }
