@@ -23,5 +23,5 @@ abbrev pub Tells : {X : Type 0} → Cause → Result X Stop → Type 0
 Tells cause result = IfErr result (λ stop. stop.cause ≡ cause)
 
 -- what is lent is what a definition says, or its refusal stands in its place
-abbrev pub Lent : {X : Type 0} → Result X Fault → Result (Bor X) Stop → Type 0
-Lent wanted result = Answered (halted result) (λ x. x.now) wanted
+abbrev pub LendsBytes : {X : Type 0} → Result X Fault → Result (Bor X) Stop → Type 0
+LendsBytes wanted result = Answered (halted result) (λ x. x.now) wanted
