@@ -1,5 +1,5 @@
 -- What a scoped view is, what is out when it ends, and what its calls owe.
-use Rattle.std.specs.Prelude.{◌≡◌, ℕ, List, [], ◌∷◌, Result, Ok, Err}
+use Rattle.std.specs.Prelude.{◌≡◌, ℕ, zero, suc, ◌+◌, ◌-◌, length, List, [], ◌∷◌, Result, Ok, Err}
 use Rattle.pybuf_value.specs.declared.faults.Fault.{Fault}
 use Rattle.pybuf_value.specs.declared.halt.Halt.{Halt}
 use Rattle.pybuf_value.specs.declared.values.PySlice.{PySlice}
@@ -21,6 +21,15 @@ changed_or old (Err f) = old
 -- the exporter after the view with this number is released, whether or not it was made
 abbrev pub after_scope : Exporter → ℕ → Exporter
 after_scope e k = changed_or e (released_in e k)
+
+-- the exporter after as many views are released, one after the other, from the one with a number on
+abbrev pub released_run : Exporter → ℕ → ℕ → Exporter
+released_run e first zero = e
+released_run e first (suc n) = after_scope (released_run e first n) (first + n)
+
+-- the exporter after all views from the one with a number on are released
+abbrev pub after_group : Exporter → ℕ → Exporter
+after_group e first = released_run e first (length e.views - first)
 
 -- ---- what owns an exporter
 

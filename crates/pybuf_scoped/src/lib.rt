@@ -1,11 +1,13 @@
 //! Views that borrow their exporter, and are released where they end.
 #![tactic(auto)]
 
+mod group;
 mod laws;
 mod owner;
 mod stop;
 mod view;
 
+pub use group::{Member, ViewGroup};
 pub use laws::scopes_leave_no_export;
 pub use owner::Owner;
 pub use stop::{Cause, Stop};

@@ -1,7 +1,5 @@
 //! One view that borrows its exporter.
-ghost use Rattle.std.specs.Prelude.{◌≡◌, length, None, Ok, IfOk, IfErr};
-ghost use Rattle.std.specs.Borrow.{sem, RestsIfErr, Lends};
-ghost use Rattle.pybuf_exporter.specs.contracts.exporter.ExporterState as exporter_row;
+ghost use Rattle.std.specs.Prelude.{◌≡◌, length, None, Ok, IfOk, IfErr, OnErr};
 ghost use Rattle.pybuf_value.specs.declared.halt.Halt.TheVariants as halts;
 ghost use Rattle.pybuf_command.specs.declared.kinds.Subject.TheVariants as subjects;
 ghost use Rattle.pybuf_command.specs.declared.commands.LocalReply.TheVariants as replies;
@@ -19,7 +17,7 @@ ghost use Rattle.pybuf_exporter.specs.Stepping.{number_put};
 ghost use Rattle.pybuf_exporter.specs.Telling.{TellsRefusal};
 ghost use Rattle.pybuf_scoped.specs.declared.stop.Cause.{Cause};
 ghost use Rattle.pybuf_scoped.specs.Stops.{halted, Tells, LendsBytes};
-ghost use Rattle.pybuf_scoped.specs.Views.{entries_of};
+ghost use Rattle.pybuf_scoped.specs.Views.{entries_of, EndsWith};
 
 use crate::owner::Owner;
 use crate::stop::{Cause, Stop};
@@ -40,6 +38,20 @@ pub(crate) fn entries(state: &ExporterState, view: usize) -> usize
     }
 }
 
+/// One more view of all bytes of what an owner has. The answer is its number.
+fn add_whole<O: Owner>(owner: &mut O) -> Result<usize, Stop>
+    ensures made { IfOk result (λ number. view_of_own (O.exporter owner.old) ≡ Ok (O.exporter owner.new, replies.View number)) }
+    ensures owner { EndsWith O.with owner.old (O.exporter owner.new) owner.new }
+    ensures err { OnErr result (O.exporter owner.new ≡ O.exporter owner.old) }
+    ensures memory { IfErr result (λ stop. stop.halt ≡ halts.NoMemory) }
+    ensures cause { Tells Cause.Whole result }
+{
+    match owner.exporter_mut().add_whole() {
+        Ok(number) => Ok(number),
+        Err(halt) => Err(Stop::new(halt, Cause::Whole)),
+    }
+}
+
 /// A view that borrows what owns its exporter: while it lives, nothing else can read, write or resize that, and where
 /// the view is dropped it is released. It is Python's `with memoryview(object) as view:`.
 ///
@@ -53,7 +65,7 @@ pub struct View<'a, O: Owner> {
 
 /// Releases the view. Its exporter changes in nothing else.
 impl<'a, O: Owner> Drop for View<'a, O> {
-    ghost use Rattle.pybuf_scoped.specs.Views.{EndsWith, after_scope};
+    ghost use Rattle.pybuf_scoped.specs.Views.{after_scope};
 
     fn drop(self)
         ensures { EndsWith O.with self.entry.owner.now (after_scope (O.exporter self.entry.owner.now) self.entry.number) self.exit.0.now }
@@ -86,23 +98,20 @@ impl<'a, O: Owner> Owner for View<'a, O> {
 }
 
 impl<'a, O: Owner> View<'a, O> {
-    ghost use Rattle.pybuf_scoped.specs.Views.{EndsWith, AssignsBytes, SlicesTo};
+    ghost use Rattle.pybuf_scoped.specs.Views.{AssignsBytes, SlicesTo};
 
     /// A view of all bytes, as Python's `memoryview(object)`. It is never refused, and stops only where memory runs
     /// out.
     /// Example: `View::of(&mut array)?` of `bytearray(b"abc")` has the items 97, 98 and 99.
     pub fn of(owner: &'a mut O) -> Result<View<'a, O>, Stop>
-        ensures* stopped { sem 𝓛 (RestsIfErr O.row owner.entry (λ view. view.owner.ghost_name) result (λ last. EndsWith O.with owner.old (O.exporter owner.old) last)) }
         ensures same_reference { IfOk result (λ view. view.owner.ghost_name ≡ owner.entry.ghost_name) }
         ensures made { IfOk result (λ view. view_of_own (O.exporter owner.old) ≡ Ok (O.exporter view.owner.now, replies.View view.number)) }
         ensures owner { IfOk result (λ view. EndsWith O.with owner.old (O.exporter view.owner.now) view.owner.now) }
         ensures memory { IfErr result (λ stop. stop.halt ≡ halts.NoMemory) }
         ensures cause { Tells Cause.Whole result }
     {
-        match owner.exporter_mut().add_whole() {
-            Ok(number) => Ok(View { owner, number }),
-            Err(halt) => Err(Stop::new(halt, Cause::Whole)),
-        }
+        let number = add_whole(owner)?;
+        Ok(View { owner, number })
     }
 
     /// The number of entries of the first dimension, as Python's `len(view)`, and 0 if it has none. Takes no memory.
@@ -205,6 +214,52 @@ impl<'a, O: Owner> View<'a, O> {
         match self.owner.exporter().run_of(Subject::View(self.number)) {
             Ok(bytes) => Ok(bytes),
             Err(fault) => Err(Stop::new(Halt::Refused(fault), Cause::Content)),
+        }
+    }
+
+    /// A view of the same bytes, with items of another format in one dimension, as Python's `view.cast(format)`. It
+    /// borrows this view until it is dropped.
+    ///
+    /// Refused with `TypeError` or `ValueError` as `PyMemoryView::cast_to` is.
+    /// Example: of a view of `b"\x01\x00\x02\x00"` the format `"H"` gives a view with the items 1 and 2.
+    pub fn cast<'b>(&'b mut self, format: &str) -> Result<View<'b, View<'a, O>>, Stop>
+        ensures same_reference { IfOk result (λ view. view.owner.ghost_name ≡ self.entry.ghost_name) }
+        ensures made { IfOk result (λ view. flat_cast_of_view (O.exporter self.old.owner.now) self.old.number format.now ≡ Ok (O.exporter view.owner.now.owner.now, replies.View view.number)) }
+        ensures parent { IfOk result (λ view. (view.owner.now.number ≡ self.old.number) × (view.owner.now.owner.ghost_name ≡ self.old.owner.ghost_name)) }
+        ensures owner { IfOk result (λ view. EndsWith O.with self.old.owner.now (O.exporter view.owner.now.owner.now) view.owner.now.owner.now) }
+        ensures cause { Tells (Cause.Format (entries_of (O.exporter self.old.owner.now) self.old.number)) result }
+    {
+        let length = self.len();
+        let view = self.number;
+        match self.owner.exporter_mut().add_cast(view, format) {
+            Ok(number) => Ok(View {
+                owner: self,
+                number,
+            }),
+            Err(halt) => Err(Stop::new(halt, Cause::Format { length })),
+        }
+    }
+
+    /// A view of the same bytes, with items of another format in the dimensions of a shape, as Python's
+    /// `view.cast(format, shape)`. It borrows this view until it is dropped.
+    ///
+    /// Refused with `TypeError` or `ValueError` as `PyMemoryView::cast_shape` is.
+    /// Example: of a view of `b"abcdef"` the format `"B"` and the shape `[2, 3]` give `[[97, 98, 99], [100, 101, 102]]`.
+    pub fn cast_shape<'b>(&'b mut self, format: &str, shape: &[usize]) -> Result<View<'b, View<'a, O>>, Stop>
+        ensures same_reference { IfOk result (λ view. view.owner.ghost_name ≡ self.entry.ghost_name) }
+        ensures made { IfOk result (λ view. shaped_cast_of_view (O.exporter self.old.owner.now) self.old.number format.now shape.now ≡ Ok (O.exporter view.owner.now.owner.now, replies.View view.number)) }
+        ensures parent { IfOk result (λ view. (view.owner.now.number ≡ self.old.number) × (view.owner.now.owner.ghost_name ≡ self.old.owner.ghost_name)) }
+        ensures owner { IfOk result (λ view. EndsWith O.with self.old.owner.now (O.exporter view.owner.now.owner.now) view.owner.now.owner.now) }
+        ensures cause { Tells (Cause.Format (entries_of (O.exporter self.old.owner.now) self.old.number)) result }
+    {
+        let length = self.len();
+        let view = self.number;
+        match self.owner.exporter_mut().add_shaped_cast(view, format, shape) {
+            Ok(number) => Ok(View {
+                owner: self,
+                number,
+            }),
+            Err(halt) => Err(Stop::new(halt, Cause::Format { length })),
         }
     }
 
