@@ -110,7 +110,11 @@ impl<'a, O: Owner> ViewGroup<'a, O> {
     ///
     /// Refused with `TypeError` where it has no dimension, and then with `ValueError` for a step of 0.
     /// Example: of a view of `b"abcdef"` the slice `1..4` gives a view of `b"bcd"`.
-    pub fn slice<S: Into<PySlice>>(&mut self, member: &Member<'a>, slice: S) -> Result<Member<'a>, Stop>
+    pub fn slice<S: Into<PySlice>>(
+        &mut self,
+        member: &Member<'a>,
+        slice: S,
+    ) -> Result<Member<'a>, Stop>
         ensures same_reference { self.new.owner.ghost_name ≡ self.old.owner.ghost_name }
         ensures first { self.new.first ≡ self.old.first }
         ensures made { IfOk result (λ made. SlicesTo (S.converts slice) (O.exporter self.old.owner.now) member.now.number (O.exporter self.new.owner.now) made.number) }
@@ -119,7 +123,11 @@ impl<'a, O: Owner> ViewGroup<'a, O> {
         ensures cause { Tells (Cause.Slice (entries_of (O.exporter self.old.owner.now) member.now.number)) result }
     {
         let length = self.len(member);
-        match self.owner.exporter_mut().add_slice(member.number, &slice.into()) {
+        match self
+            .owner
+            .exporter_mut()
+            .add_slice(member.number, &slice.into())
+        {
             Ok(number) => Ok(Member {
                 number,
                 of: PhantomData,
@@ -194,7 +202,11 @@ impl<'a, O: Owner> ViewGroup<'a, O> {
         ensures cause { Tells (Cause.Number number index (entries_of (O.exporter self.old.owner.now) member.now.number)) result }
     {
         let length = self.len(member);
-        match self.owner.exporter_mut().put_number(member.number, index, number) {
+        match self
+            .owner
+            .exporter_mut()
+            .put_number(member.number, index, number)
+        {
             Ok(()) => Ok(()),
             Err(halt) => Err(Stop::new(
                 halt,
@@ -214,7 +226,12 @@ impl<'a, O: Owner> ViewGroup<'a, O> {
     /// has several, and with `ValueError` for a step of 0, for items of another format than `B` and where the bytes are
     /// not as many as the items.
     /// Example: over a view of `b"abcdef"` the slice `0..2` and the bytes `b"12"` make `b"12cdef"`.
-    pub fn assign<S: Into<PySlice>>(&mut self, member: &Member<'a>, slice: S, bytes: &[u8]) -> Result<(), Stop>
+    pub fn assign<S: Into<PySlice>>(
+        &mut self,
+        member: &Member<'a>,
+        slice: S,
+        bytes: &[u8],
+    ) -> Result<(), Stop>
         ensures same_reference { self.new.owner.ghost_name ≡ self.old.owner.ghost_name }
         ensures first { self.new.first ≡ self.old.first }
         ensures answer { AssignsBytes (S.converts slice) member.now.number bytes.now (O.exporter self.old.owner.now) (halted result) (O.exporter self.new.owner.now) }
@@ -223,7 +240,11 @@ impl<'a, O: Owner> ViewGroup<'a, O> {
     {
         let length = self.len(member);
         let given = bytes.len();
-        match self.owner.exporter_mut().assign_bytes(member.number, &slice.into(), bytes) {
+        match self
+            .owner
+            .exporter_mut()
+            .assign_bytes(member.number, &slice.into(), bytes)
+        {
             Ok(()) => Ok(()),
             Err(halt) => Err(Stop::new(halt, Cause::Bytes { given, length })),
         }

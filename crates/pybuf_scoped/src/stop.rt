@@ -123,16 +123,25 @@ impl From<Stop> for Halt {
 fn write_cause<W: fmt::Write>(cause: Cause, f: &mut fmt::Formatter<W>) -> fmt::Result {
     match cause {
         Cause::Whole => f.write_str("a view of all bytes can't be made"),
-        Cause::Index { index, length } => write!(f, "the item at index {index} of {length} can't be read"),
+        Cause::Index { index, length } => write!(
+            f,
+            "the item at index {index} of {length} can't be read"
+        ),
         Cause::Number {
             number,
             index,
             length,
-        } => write!(f, "the number {number} can't be written at index {index} of {length}"),
+        } => write!(
+            f,
+            "the number {number} can't be written at index {index} of {length}"
+        ),
         Cause::Slice { length } => write!(f, "a view of {length} entries can't be sliced so"),
         Cause::Format { length } => write!(f, "a view of {length} entries can't be cast so"),
         Cause::Bytes { given, length } => {
-            write!(f, "{given} bytes can't be written over this slice of {length} entries")
+            write!(
+                f,
+                "{given} bytes can't be written over this slice of {length} entries"
+            )
         }
         Cause::Content => f.write_str("the bytes of the view can't be had"),
     }
@@ -157,8 +166,10 @@ fn kind_text(cause: Cause) -> &'static str {
             number: _,
             index: _,
             length: _,
-        } => "the view may only be read, or has no dimension, or its format doesn't take the number",
-        Cause::Format { length: _ } => "its bytes don't lie together, or make no whole number of such items, or the format isn't one",
+        } =>
+            "the view may only be read, or has no dimension, or its format doesn't take the number",
+        Cause::Format { length: _ } =>
+            "its bytes don't lie together, or make no whole number of such items, or the format isn't one",
         Cause::Bytes {
             given: _,
             length: _,

@@ -7,7 +7,6 @@ ghost use Rattle.pybuf_state.specs.Answers.{Reads, as_item, as_bytes};
 ghost use Rattle.pybuf_state.specs.Live.{layout_of};
 ghost use Rattle.pybuf_state.specs.Snaps.{snap_of_subject};
 ghost use Rattle.pybuf_value.specs.Snaps.{content_of};
-
 ghost use Rattle.pybuf_verbs_views.specs.View.{view_of_own};
 ghost use Rattle.pybuf_verbs_views.specs.Slice.{slice_of_view};
 ghost use Rattle.pybuf_verbs_views.specs.Cast.{flat_cast_of_view, shaped_cast_of_view};
@@ -135,7 +134,11 @@ impl<'a, O: Owner> View<'a, O> {
         ensures cause { Tells (Cause.Number number index (entries_of (O.exporter self.old.owner.now) self.old.number)) result }
     {
         let length = self.len();
-        match self.owner.exporter_mut().put_number(self.number, index, number) {
+        match self
+            .owner
+            .exporter_mut()
+            .put_number(self.number, index, number)
+        {
             Ok(()) => Ok(()),
             Err(halt) => Err(Stop::new(
                 halt,
@@ -184,7 +187,11 @@ impl<'a, O: Owner> View<'a, O> {
     {
         let length = self.len();
         let given = bytes.len();
-        match self.owner.exporter_mut().assign_bytes(self.number, &slice.into(), bytes) {
+        match self
+            .owner
+            .exporter_mut()
+            .assign_bytes(self.number, &slice.into(), bytes)
+        {
             Ok(()) => Ok(()),
             Err(halt) => Err(Stop::new(halt, Cause::Bytes { given, length })),
         }
@@ -245,7 +252,11 @@ impl<'a, O: Owner> View<'a, O> {
     ///
     /// Refused with `TypeError` or `ValueError` as `PyMemoryView::cast_shape` is.
     /// Example: of a view of `b"abcdef"` the format `"B"` and the shape `[2, 3]` give `[[97, 98, 99], [100, 101, 102]]`.
-    pub fn cast_shape<'b>(&'b mut self, format: &str, shape: &[usize]) -> Result<View<'b, View<'a, O>>, Stop>
+    pub fn cast_shape<'b>(
+        &'b mut self,
+        format: &str,
+        shape: &[usize],
+    ) -> Result<View<'b, View<'a, O>>, Stop>
         ensures same_reference { IfOk result (λ view. view.owner.ghost_name ≡ self.entry.ghost_name) }
         ensures made { IfOk result (λ view. shaped_cast_of_view (O.exporter self.old.owner.now) self.old.number format.now shape.now ≡ Ok (O.exporter view.owner.now.owner.now, replies.View view.number)) }
         ensures parent { IfOk result (λ view. (view.owner.now.number ≡ self.old.number) × (view.owner.now.owner.ghost_name ≡ self.old.owner.ghost_name)) }
@@ -254,7 +265,11 @@ impl<'a, O: Owner> View<'a, O> {
     {
         let length = self.len();
         let view = self.number;
-        match self.owner.exporter_mut().add_shaped_cast(view, format, shape) {
+        match self
+            .owner
+            .exporter_mut()
+            .add_shaped_cast(view, format, shape)
+        {
             Ok(number) => Ok(View {
                 owner: self,
                 number,
@@ -268,7 +283,10 @@ impl<'a, O: Owner> View<'a, O> {
     ///
     /// Refused with `TypeError` where it has no dimension, and then with `ValueError` for a step of 0.
     /// Example: of a view of `b"abcdef"` the slice `1..4` gives a view of `b"bcd"`.
-    pub fn slice<'b, S: Into<PySlice>>(&'b mut self, slice: S) -> Result<View<'b, View<'a, O>>, Stop>
+    pub fn slice<'b, S: Into<PySlice>>(
+        &'b mut self,
+        slice: S,
+    ) -> Result<View<'b, View<'a, O>>, Stop>
         ensures same_reference { IfOk result (λ view. view.owner.ghost_name ≡ self.entry.ghost_name) }
         ensures made { IfOk result (λ view. SlicesTo (S.converts slice) (O.exporter self.old.owner.now) self.old.number (O.exporter view.owner.now.owner.now) view.number) }
         ensures parent { IfOk result (λ view. (view.owner.now.number ≡ self.old.number) × (view.owner.now.owner.ghost_name ≡ self.old.owner.ghost_name)) }
