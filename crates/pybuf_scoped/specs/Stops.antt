@@ -1,5 +1,5 @@
 -- Why a call gives nothing, and the answers of calls that tell it.
-use Rattle.std.specs.Prelude.{◌≡◌, ℕ, List, Option, Some, None, Result, Ok, Err, IfErr}
+use Rattle.std.specs.Prelude.{◌≡◌, Option, Some, None, Result, IfErr}
 use Rattle.std.specs.Result.{result_map_both}
 use Rattle.std.specs.Borrow.{Bor}
 use Rattle.pybuf_value.specs.Halting.{Answered}

@@ -4,7 +4,6 @@ use Rattle.pybuf_value.specs.declared.faults.Fault.{Fault}
 use Rattle.pybuf_value.specs.declared.halt.Halt.{Halt}
 use Rattle.pybuf_value.specs.declared.values.PySlice.{PySlice}
 use Rattle.pybuf_command.specs.declared.commands.LocalReply.TheVariants as reply
-use Rattle.pybuf_desc.specs.Layouts.{Layout}
 use Rattle.pybuf_state.specs.Exporter.{Exporter, released_in}
 use Rattle.pybuf_state.specs.Live.{layout_of}
 use Rattle.pybuf_state.specs.Answers.{Answers, as_done}

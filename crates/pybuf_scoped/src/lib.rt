@@ -8,7 +8,7 @@ mod stop;
 mod view;
 
 pub use group::{Member, ViewGroup};
-pub use laws::scopes_leave_no_export;
+pub use laws::{groups_leave_no_export, scopes_leave_no_export};
 pub use owner::Owner;
 pub use stop::{Cause, Stop};
 pub use view::View;
