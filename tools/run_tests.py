@@ -177,6 +177,7 @@ def parts(built):
         command_part("names", "python3", "tools/check_names.py"),
         command_part("boundaries", ".ci/boundaries"),
         command_part("byhand", ".ci/byhand"),
+        command_part("misuse", "python3", "tools/misuse.py"),
     ]
     if built:
         return [

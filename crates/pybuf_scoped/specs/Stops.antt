@@ -1,0 +1,27 @@
+-- Why a call gives nothing, and the answers of calls that tell it.
+use Rattle.std.specs.Prelude.{◌≡◌, Option, Some, None, Result, IfErr}
+use Rattle.std.specs.Result.{result_map_both}
+use Rattle.std.specs.Borrow.{Bor}
+use Rattle.pybuf_value.specs.Halting.{Answered}
+use Rattle.pybuf_value.specs.declared.faults.Fault.{Fault}
+use Rattle.pybuf_value.specs.declared.halt.Halt.{Halt}
+use Rattle.pybuf_value.specs.declared.halt.Halt.TheVariants as halt
+use Rattle.pybuf_scoped.specs.declared.stop.Stop.{Stop}
+use Rattle.pybuf_scoped.specs.declared.stop.Cause.{Cause}
+
+-- the refusal, and none if memory ran out
+abbrev pub fault_of : Halt → Option Fault
+fault_of (halt.Refused f) = Some f
+fault_of halt.NoMemory = None
+
+-- the answer that the call by number gives
+abbrev pub halted : {X : Type 0} → Result X Stop → Result X Halt
+halted result = result_map_both (λ x. x) (λ stop. stop.halt) result
+
+-- a call that gives nothing says what was asked
+abbrev pub Tells : {X : Type 0} → Cause → Result X Stop → Type 0
+Tells cause result = IfErr result (λ stop. stop.cause ≡ cause)
+
+-- what is lent is what a definition says, or its refusal stands in its place
+abbrev pub LendsBytes : {X : Type 0} → Result X Fault → Result (Bor X) Stop → Type 0
+LendsBytes wanted result = Answered (halted result) (λ x. x.now) wanted

@@ -1,0 +1,14 @@
+//! Views that borrow their exporter, and are released where they end.
+#![tactic(auto)]
+
+mod group;
+mod laws;
+mod owner;
+mod stop;
+mod view;
+
+pub use group::{Member, ViewGroup};
+pub use laws::{groups_leave_no_export, scopes_leave_no_export};
+pub use owner::Owner;
+pub use stop::{Cause, Stop};
+pub use view::View;
