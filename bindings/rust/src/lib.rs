@@ -27,7 +27,7 @@
 //! bytes are cells. No view may be sent to another thread.
 //!
 //! A view reads and writes the bytes where they lie, a call for each item. The library doesn't lend an address, so there is no `Deref` to a
-//! slice: [`View::to_bytes`] copies.
+//! slice: [`View::to_bytes`] copies. What released views leave in the library is given back once no view of their array is there.
 //!
 //! # From `rustpython-vm` 0.4.0
 //!

@@ -4,12 +4,17 @@ use crate::error::{Error, Result};
 use crate::slices::Slice;
 use crate::views::{View, ViewCell, ViewMut};
 use crate::world::World;
+use std::cell::{Ref, RefCell};
 use std::cmp::Ordering;
 use std::ffi::CString;
 use std::fmt;
 use std::hash::{Hash, Hasher};
 use std::io;
 use std::rc::Rc;
+
+// A world is worn after so many views, and so many more for each of so many bytes, which a new one has to copy.
+const VIEWS: u64 = 512;
+const COPIED: u64 = 1 << 16;
 
 /// What a world and a number name. A world and its objects stay on their thread.
 #[derive(Clone)]
@@ -29,6 +34,12 @@ impl Object {
         Ok(Object { world: Rc::new(world), number })
     }
 
+    /// Whether no view is there, and released views left more in the world than a new one with a copy of the bytes takes.
+    fn is_worn(&self) -> bool {
+        let left = self.world.count() / VIEWS;
+        left > 0 && Rc::strong_count(&self.world) == 1 && self.length().is_ok_and(|length| left > length as u64 / COPIED)
+    }
+
     fn made(&self, number: u64) -> Object {
         Object {
             world: Rc::clone(&self.world),
@@ -39,6 +50,7 @@ impl Object {
     pub(crate) fn object(&self, call: impl Fn(*mut calls::RawWorld, u64, *mut u64) -> i32) -> Result<Object> {
         let mut made = 0;
         done(call(self.world.pointer(), self.number, &mut made))?;
+        self.world.made(made);
         Ok(self.made(made))
     }
 
@@ -140,7 +152,7 @@ fn told(truth: i32) -> Option<bool> {
 /// # Ok::<(), pybuf::Error>(())
 /// ```
 pub struct ByteArray {
-    object: Object,
+    object: RefCell<Object>,
 }
 
 // SAFETY, of each unsafe block below: the world is alive, no other call uses it, since it stays on its thread and no call of it calls
@@ -154,7 +166,7 @@ impl ByteArray {
     /// # Ok::<(), pybuf::Error>(())
     /// ```
     pub fn new(bytes: &[u8]) -> Result<ByteArray> {
-        Ok(ByteArray { object: Object::new(1, bytes)? })
+        Ok(ByteArray { object: Object::new(1, bytes)?.into() })
     }
 
     /// `memoryview(self)`.
@@ -166,7 +178,7 @@ impl ByteArray {
     /// # Ok::<(), pybuf::Error>(())
     /// ```
     pub fn view(&self) -> Result<MemoryView> {
-        self.object.view()
+        self.renewed().view()
     }
 
     /// The number of bytes.
@@ -178,7 +190,7 @@ impl ByteArray {
     /// # Ok::<(), pybuf::Error>(())
     /// ```
     pub fn len(&self) -> Result<usize> {
-        self.object.length()
+        self.object().length()
     }
 
     /// Whether there are no bytes.
@@ -203,7 +215,7 @@ impl ByteArray {
     /// # Ok::<(), pybuf::Error>(())
     /// ```
     pub fn exports(&self) -> Result<usize> {
-        let exports = self.object.number(|world, array, number| unsafe { calls::pybuf_property_number(world, array, 0, number) })?;
+        let exports = self.object().number(|world, array, number| unsafe { calls::pybuf_property_number(world, array, 0, number) })?;
         Ok(exports as usize)
     }
 
@@ -216,7 +228,7 @@ impl ByteArray {
     /// # Ok::<(), pybuf::Error>(())
     /// ```
     pub fn to_bytes(&self) -> Result<Vec<u8>> {
-        self.object.bytes()
+        self.object().bytes()
     }
 
     /// The byte at an index, which counts from the end where it is negative.
@@ -229,7 +241,7 @@ impl ByteArray {
     /// # Ok::<(), pybuf::Error>(())
     /// ```
     pub fn get(&self, index: i64) -> Result<u8> {
-        Ok(self.object.get(index)? as u8)
+        Ok(self.object().get(index)? as u8)
     }
 
     /// Writes the byte at an index. `Error::Buffer` refuses it while a [`View`] is there.
@@ -242,7 +254,7 @@ impl ByteArray {
     /// # Ok::<(), pybuf::Error>(())
     /// ```
     pub fn set(&self, index: i64, byte: u8) -> Result<()> {
-        self.object.set(index, byte.into())
+        self.object().set(index, byte.into())
     }
 
     /// A copy of the bytes of a slice.
@@ -254,7 +266,7 @@ impl ByteArray {
     /// # Ok::<(), pybuf::Error>(())
     /// ```
     pub fn slice(&self, slice: impl Into<Slice>) -> Result<Vec<u8>> {
-        self.object.slice_bytes(slice.into())
+        self.object().slice_bytes(slice.into())
     }
 
     /// Puts bytes in place of a slice.
@@ -267,7 +279,7 @@ impl ByteArray {
     /// # Ok::<(), pybuf::Error>(())
     /// ```
     pub fn set_slice(&self, slice: impl Into<Slice>, bytes: &[u8]) -> Result<()> {
-        self.object.set_slice(slice.into(), bytes)
+        self.object().set_slice(slice.into(), bytes)
     }
 
     /// Takes out the bytes of a slice.
@@ -280,8 +292,9 @@ impl ByteArray {
     /// # Ok::<(), pybuf::Error>(())
     /// ```
     pub fn delete(&self, slice: impl Into<Slice>) -> Result<()> {
+        let object = self.object();
         let words = slice.into().words();
-        done(unsafe { calls::pybuf_delete_slice(self.object.world.pointer(), self.object.number, &words) })
+        done(unsafe { calls::pybuf_delete_slice(object.world.pointer(), object.number, &words) })
     }
 
     /// Puts a byte at the end. `Error::Buffer` refuses it, and each other change of the length, while a view is unreleased. With
@@ -295,8 +308,9 @@ impl ByteArray {
     /// # Ok::<(), pybuf::Error>(())
     /// ```
     pub fn append(&self, byte: u8) -> Result<()> {
+        let object = self.object();
         let byte = Number::of(byte.into())?;
-        done(unsafe { calls::pybuf_append(self.object.world.pointer(), self.object.number, byte) })
+        done(unsafe { calls::pybuf_append(object.world.pointer(), object.number, byte) })
     }
 
     /// Puts bytes at the end. [`Extend`] takes an iterator.
@@ -309,7 +323,8 @@ impl ByteArray {
     /// # Ok::<(), pybuf::Error>(())
     /// ```
     pub fn extend(&self, bytes: &[u8]) -> Result<()> {
-        done(unsafe { calls::pybuf_extend(self.object.world.pointer(), self.object.number, bytes.as_ptr(), bytes.len()) })
+        let object = self.object();
+        done(unsafe { calls::pybuf_extend(object.world.pointer(), object.number, bytes.as_ptr(), bytes.len()) })
     }
 
     /// Puts a byte before the place nearest to an index.
@@ -322,8 +337,9 @@ impl ByteArray {
     /// # Ok::<(), pybuf::Error>(())
     /// ```
     pub fn insert(&self, index: i64, byte: u8) -> Result<()> {
+        let object = self.object();
         let byte = Number::of(byte.into())?;
-        done(unsafe { calls::pybuf_insert(self.object.world.pointer(), self.object.number, index, byte) })
+        done(unsafe { calls::pybuf_insert(object.world.pointer(), object.number, index, byte) })
     }
 
     /// Takes out the last byte.
@@ -335,7 +351,7 @@ impl ByteArray {
     /// # Ok::<(), pybuf::Error>(())
     /// ```
     pub fn pop(&self) -> Result<u8> {
-        let byte = self.object.number(|world, object, byte| unsafe { calls::pybuf_pop_last(world, object, byte) })?;
+        let byte = self.object().number(|world, object, byte| unsafe { calls::pybuf_pop_last(world, object, byte) })?;
         Ok(byte as u8)
     }
 
@@ -348,7 +364,7 @@ impl ByteArray {
     /// # Ok::<(), pybuf::Error>(())
     /// ```
     pub fn pop_at(&self, index: i64) -> Result<u8> {
-        let byte = self.object.number(|world, object, byte| unsafe { calls::pybuf_pop(world, object, index, byte) })?;
+        let byte = self.object().number(|world, object, byte| unsafe { calls::pybuf_pop(world, object, index, byte) })?;
         Ok(byte as u8)
     }
 
@@ -363,8 +379,9 @@ impl ByteArray {
     /// # Ok::<(), pybuf::Error>(())
     /// ```
     pub fn remove(&self, byte: u8) -> Result<()> {
+        let object = self.object();
         let byte = Number::of(byte.into())?;
-        done(unsafe { calls::pybuf_remove(self.object.world.pointer(), self.object.number, byte) })
+        done(unsafe { calls::pybuf_remove(object.world.pointer(), object.number, byte) })
     }
 
     /// Takes out all bytes.
@@ -377,7 +394,8 @@ impl ByteArray {
     /// # Ok::<(), pybuf::Error>(())
     /// ```
     pub fn clear(&self) -> Result<()> {
-        done(unsafe { calls::pybuf_clear(self.object.world.pointer(), self.object.number) })
+        let object = self.object();
+        done(unsafe { calls::pybuf_clear(object.world.pointer(), object.number) })
     }
 
     /// Turns the order of the bytes round.
@@ -390,8 +408,9 @@ impl ByteArray {
     /// # Ok::<(), pybuf::Error>(())
     /// ```
     pub fn reverse(&self) -> Result<()> {
-        self.object.world.may_write()?;
-        done(unsafe { calls::pybuf_reverse(self.object.world.pointer(), self.object.number) })
+        let object = self.object();
+        object.world.may_write()?;
+        done(unsafe { calls::pybuf_reverse(object.world.pointer(), object.number) })
     }
 
     /// Repeats the bytes so many times.
@@ -404,7 +423,8 @@ impl ByteArray {
     /// # Ok::<(), pybuf::Error>(())
     /// ```
     pub fn repeat(&self, count: i64) -> Result<()> {
-        done(unsafe { calls::pybuf_repeat(self.object.world.pointer(), self.object.number, count) })
+        let object = self.object();
+        done(unsafe { calls::pybuf_repeat(object.world.pointer(), object.number, count) })
     }
 }
 
@@ -466,7 +486,7 @@ impl ByteArray {
     /// # Ok::<(), pybuf::Error>(())
     /// ```
     pub fn contains(&self, bytes: &[u8]) -> Result<bool> {
-        self.object.contains(bytes)
+        self.object().contains(bytes)
     }
 }
 
@@ -481,7 +501,7 @@ impl ByteArray {
 /// # Ok::<(), pybuf::Error>(())
 /// ```
 pub struct Bytes {
-    object: Object,
+    object: RefCell<Object>,
 }
 
 impl Bytes {
@@ -492,7 +512,7 @@ impl Bytes {
     /// # Ok::<(), pybuf::Error>(())
     /// ```
     pub fn new(bytes: &[u8]) -> Result<Bytes> {
-        Ok(Bytes { object: Object::new(0, bytes)? })
+        Ok(Bytes { object: Object::new(0, bytes)?.into() })
     }
 
     /// A view of the bytes.
@@ -502,7 +522,7 @@ impl Bytes {
     /// # Ok::<(), pybuf::Error>(())
     /// ```
     pub fn as_view(&self) -> Result<View<'_>> {
-        self.object.view().map(View::of_all)
+        self.renewed().view().map(View::of_all)
     }
 
     /// The number of bytes. It panics if memory runs out.
@@ -512,7 +532,7 @@ impl Bytes {
     /// # Ok::<(), pybuf::Error>(())
     /// ```
     pub fn len(&self) -> usize {
-        self.object.length().expect(MEMORY)
+        self.object().length().expect(MEMORY)
     }
 
     /// Whether there are no bytes. It panics if memory runs out.
@@ -532,7 +552,7 @@ impl Bytes {
     /// # Ok::<(), pybuf::Error>(())
     /// ```
     pub fn get(&self, index: i64) -> Result<u8> {
-        Ok(self.object.get(index)? as u8)
+        Ok(self.object().get(index)? as u8)
     }
 
     /// A copy of the bytes of a slice.
@@ -542,7 +562,7 @@ impl Bytes {
     /// # Ok::<(), pybuf::Error>(())
     /// ```
     pub fn slice(&self, slice: impl Into<Slice>) -> Result<Vec<u8>> {
-        self.object.slice_bytes(slice.into())
+        self.object().slice_bytes(slice.into())
     }
 
     /// A copy of the bytes.
@@ -552,7 +572,7 @@ impl Bytes {
     /// # Ok::<(), pybuf::Error>(())
     /// ```
     pub fn to_bytes(&self) -> Result<Vec<u8>> {
-        self.object.bytes()
+        self.object().bytes()
     }
 
     /// Whether these bytes stand in it, one behind the other.
@@ -562,7 +582,7 @@ impl Bytes {
     /// # Ok::<(), pybuf::Error>(())
     /// ```
     pub fn contains(&self, bytes: &[u8]) -> Result<bool> {
-        self.object.contains(bytes)
+        self.object().contains(bytes)
     }
 }
 
@@ -570,7 +590,24 @@ const MEMORY: &str = "pybuf: memory ran out";
 
 /// What owners of bytes have in common.
 macro_rules! owners {
-    ($($owner:ident)*) => {$(
+    ($($owner:ident $kind:literal)*) => {$(
+        impl $owner {
+            fn object(&self) -> Ref<'_, Object> {
+                self.object.borrow()
+            }
+
+            /// The object, after it moved to a new world if what released views left in the old one is more than the bytes.
+            fn renewed(&self) -> Ref<'_, Object> {
+                if self.object().is_worn() {
+                    // where memory runs out, the old world stays
+                    if let Ok(object) = self.to_bytes().and_then(|bytes| Object::new($kind, &bytes)) {
+                        self.object.replace(object);
+                    }
+                }
+                self.object()
+            }
+        }
+
         impl fmt::Debug for $owner {
             fn fmt(&self, f: &mut fmt::Formatter<'_>) -> fmt::Result {
                 match self.to_bytes() {
@@ -582,7 +619,7 @@ macro_rules! owners {
 
         impl PartialEq for $owner {
             fn eq(&self, other: &$owner) -> bool {
-                self.object.compared(0, &other.object) == Ok(Some(true))
+                self.object().compared(0, &other.object()) == Ok(Some(true))
             }
         }
 
@@ -596,7 +633,7 @@ macro_rules! owners {
 
         impl Ord for $owner {
             fn cmp(&self, other: &$owner) -> Ordering {
-                let told = |operator| self.object.compared(operator, &other.object).expect(MEMORY) == Some(true);
+                let told = |operator| self.object().compared(operator, &other.object()).expect(MEMORY) == Some(true);
                 if told(2) {
                     Ordering::Less
                 } else if told(4) {
@@ -641,7 +678,7 @@ macro_rules! owners {
 
         impl PartialEq<[u8]> for $owner {
             fn eq(&self, other: &[u8]) -> bool {
-                self.object.compared_to(0, other) == Ok(Some(true))
+                self.object().compared_to(0, other) == Ok(Some(true))
             }
         }
 
@@ -674,7 +711,7 @@ macro_rules! owners {
     )*};
 }
 
-owners! { ByteArray Bytes }
+owners! { ByteArray 1 Bytes 0 }
 
 impl Extend<u8> for ByteArray {
     /// It panics where [`push`](ByteArray::push) does.

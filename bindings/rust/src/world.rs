@@ -49,6 +49,8 @@ pub struct World {
     pointer: *mut RawWorld,
     /// How many views are there under which no byte changes.
     readers: Cell<usize>,
+    /// How many objects it made, whose numbers stay taken when they are released.
+    count: Cell<u64>,
 }
 
 impl World {
@@ -62,7 +64,7 @@ impl World {
         let mut pointer = ptr::null_mut();
         // SAFETY: the pointer points to a place that is ours.
         done(unsafe { calls::pybuf_world_new(&mut pointer) })?;
-        Ok(World { pointer, readers: Cell::new(0) })
+        Ok(World { pointer, readers: Cell::new(0), count: Cell::new(0) })
     }
 
     /// The replies to the lines of a text. A refusal is a reply that begins with `!`.
@@ -106,6 +108,15 @@ impl World {
     /// Counts one reader less, which was counted.
     pub(crate) fn take_reader(&self) {
         self.readers.set(self.readers.get() - 1);
+    }
+
+    /// Takes note of the number of an object that it made.
+    pub(crate) fn made(&self, number: u64) {
+        self.count.set(number.saturating_add(1));
+    }
+
+    pub(crate) fn count(&self) -> u64 {
+        self.count.get()
     }
 
     pub(crate) fn pointer(&self) -> *mut RawWorld {

@@ -171,6 +171,22 @@ fn streams_carry_all_bytes() {
     drop(view);
 }
 
+#[test]
+fn released_views_leave_nothing() {
+    let bytes = vec![7; 100_000];
+    let (mut array, still) = (ByteArray::from(&bytes[..]), Bytes::from(b"a"));
+    for _ in 0..3000 {
+        array.as_view_mut().unwrap().set(-1, 8).unwrap();
+        assert_eq!(array.as_cells().unwrap().get(-1), Ok(8));
+        assert_eq!(still.as_view().unwrap().len(), 1);
+    }
+    // a view is shown by its number: the world of the 3000 views is a new one after at most 1024
+    let shown = format!("{:?}", array.view().unwrap());
+    let digits: String = shown.chars().filter(char::is_ascii_digit).collect();
+    assert!(digits.parse::<u64>().unwrap() <= 1100, "{shown}");
+    assert_eq!(array.slice(..-1).unwrap(), bytes[1..]);
+}
+
 fn owner<T>(of: impl Fn(&[u8]) -> T)
 where
     T: Clone + Debug + Ord + std::hash::Hash + PartialEq<[u8]> + PartialEq<Vec<u8>> + for<'a> PartialEq<&'a [u8]>,
