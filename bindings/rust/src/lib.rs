@@ -33,36 +33,51 @@
 //!
 //! | There | Here |
 //! |---|---|
-//! | `PyBytesInner`, `PyByteArray` | [`ByteArray`], [`Bytes`] |
-//! | `PyBytesInner::{len, is_empty, contains, as_bytes}` | [`Bytes::len`], [`Bytes::is_empty`], [`Bytes::contains`], [`Bytes::to_bytes`] (a copy) |
-//! | `PyBytesInner::cmp`, `hash` | `Ord`, `Hash` |
-//! | `PyBuffer`, `ArgBytesLike` | [`View`] |
-//! | `PyBuffer::release`, `retain` | `drop`, `clone` |
-//! | `PyBuffer::append_to`, `contiguous_or_collect`, `ArgBytesLike::with_ref` | [`View::to_bytes`] |
-//! | `PyBuffer::from_byte_vector`, `VecBuffer::into_pybuffer` | [`Bytes::new`], then [`Bytes::as_view`] |
-//! | `ArgMemoryBuffer` | [`ViewMut`] |
-//! | `PyMemoryView` | [`MemoryView`], or [`ViewCell`] with a lifetime |
-//! | `PyMemoryView::cast` | [`View::cast`], [`View::cast_to`] by types; [`MemoryView::cast`] by a format |
-//! | `BufferDescriptor::{ndim, is_contiguous, position}`, `dim_desc` | [`View::shape`], [`View::strides`], [`View::is_contiguous`], [`View::get_at`] |
+//! | `PyBytes`, `PyByteArray`, `PyBytesInner`; `new_ref` | [`Bytes`], [`ByteArray`]; [`Bytes::new`], [`ByteArray::new`] |
+//! | `PyBytes::{len, is_empty}`, `PyBytesInner::{contains, cmp, hash}` | [`Bytes::len`], [`Bytes::is_empty`], [`Bytes::contains`], `Ord`, `Hash` |
+//! | `PyBytes::as_bytes`, `PyByteArray::borrow_buf` | [`Bytes::to_bytes`], [`ByteArray::to_bytes`]: copies |
+//! | `PyByteArray::borrow_buf_mut` | [`ByteArray::as_view_mut`], and the calls of [`ByteArray`] that edit |
+//! | `PyByteArray::delitem`, `SequenceMutExt::imul` | [`ByteArray::delete`], [`ByteArray::repeat`] |
+//! | `PyBytesInner::{find, split, hex, ..}`, `AnyStr` | none: [`World::run`] has them as lines |
+//! | `PyBuffer`, `ArgBytesLike`; `ArgMemoryBuffer` | [`View`]; [`ViewMut`] |
+//! | `PyBuffer::{retain, release}` | `clone`, `drop` |
+//! | `PyBuffer::{append_to, contiguous_or_collect}`, `ArgBytesLike::with_ref` | [`View::to_bytes`] |
+//! | `PyBuffer::{as_contiguous, obj_bytes}`, their `_mut`, `BufferDescriptor::{for_each_segment, zip_eq}` | none: no address is lent |
+//! | `PyBuffer::from_byte_vector`, `VecBuffer` | [`Bytes::new`], then [`Bytes::as_view`] |
+//! | `BufferDescriptor::{ndim, is_contiguous, position}`, `dim_desc` | [`View::shape`], [`View::is_contiguous`], [`View::get_at`], [`View::strides`] |
+//! | `BufferMethods`, `BufferDescriptor::{simple, format, validate}` | none: the library exports its own bytes |
 //! | `BufferResizeGuard::try_resizable` | the borrow checker; `Error::Buffer` of [`ByteArray::append`] |
-//! | `SaturatedSlice`, `PySlice`, `SequenceIndex` | [`Slice`], [`slice!`] |
+//! | `PyMemoryView::{from_buffer, new_view, release}` | [`ByteArray::view`], [`MemoryView::view`], [`MemoryView::release`]; [`ViewCell`] with a lifetime |
+//! | `PyMemoryView::{from_buffer_range, to_contiguous}` | [`View::slice`], [`View::to_bytes`] |
+//! | `PyMemoryViewIterator`, `PyBytesIterator`, `PyByteArrayIterator` | [`Iter`], [`View::iter`], `IntoIterator` |
+//! | `PySlice`, `SaturatedSlice`, `SequenceIndex`, `OptionalRangeArgs` | [`Slice`], [`slice!`]; an index is an `i64` |
+//! | `SliceableSequenceOp::{getitem_by_index, getitem_by_slice}` | [`ByteArray::get`], [`ByteArray::slice`] |
+//! | `SliceableSequenceMutOp::{setitem_by_index, setitem_by_slice, delitem_by_slice}` | [`ByteArray::set`], [`ByteArray::set_slice`], [`ByteArray::delete`] |
 //! | `FormatSpec::{parse, size, pack, pack_into, unpack}` | [`Format::new`], [`Format::size`], [`Format::pack`], [`Format::pack_into`], [`Format::unpack`], [`Format::unpack_as`] |
-//! | `new_struct_error`, `PyBaseExceptionRef` | [`Error`] |
-//! | `PyBuffer::{as_contiguous, obj_bytes}`, their `_mut`, `for_each_segment` | none: no address is lent |
-//! | `PyBytesInner::{find, split, hex, ..}` | none here: [`World::run`] has them as lines |
+//! | `new_struct_error`, `struct_error_type`, `PyBaseExceptionRef` | [`Error`] |
+//! | `bytes_from_object`, `value_from_object`, `ArgStrOrBytesLike`, `ArgAsciiBuffer` | none: there are no objects of other types |
 //!
-//! A caller that reads a header through a `PyBuffer` there moves over in three steps:
+//! This is how `unpack_single`, which reads an item of a memoryview there, moves over:
 //!
 //! ```
-//! // let buffer = PyBuffer::try_from_object(vm, object)?;
-//! // let format = FormatSpec::parse(b"<HI", vm)?;
-//! // let tuple = format.unpack(&buffer.contiguous_or_collect(|bytes| bytes[..6].to_vec()), vm)?;
-//! fn header(bytes: &pybuf::Bytes) -> pybuf::Result<(u16, u32)> {
-//!     let view = bytes.as_view()?; // 1. a view in place of a buffer, released when it is dropped
-//!     let format = pybuf::Format::new("<HI")?; // 2. no `vm`: a call answers a `Result` of this crate
-//!     format.unpack_as(&view.slice(..6)?.to_bytes()?) // 3. a Rust tuple in place of Python's
+//! use pybuf::{Bytes, Format, Result, Value, View};
+//!
+//! // fn unpack_single(&self, pos: usize, vm: &VirtualMachine) -> PyResult {
+//! //     let bytes = self.buffer.obj_bytes();
+//! //     self.format_spec.unpack(&bytes[pos..pos + self.desc.itemsize], vm).map(..)
+//! // }
+//! fn unpack_single(view: &View<'_>, format: &Format, pos: i64) -> Result<Vec<Value>> {
+//!     // the view stands for the buffer that `obj_bytes` locks, and no byte changes while it is there
+//!     let item = view.slice(pos..pos + format.size()? as i64)?;
+//!     // a slice out of range is shorter, which `unpack` refuses where the original panics; there is no `vm` to pass
+//!     format.unpack(&item.to_bytes()?)
 //! }
-//! assert_eq!(header(&pybuf::Bytes::new(b"\x01\0\x02\0\0\0rest")?)?, (1, 2));
+//!
+//! let bytes = Bytes::new(b"\x01\x00\x02\x01")?;
+//! let view = bytes.as_view()?;
+//! assert_eq!(unpack_single(&view, &Format::new("<H")?, 2)?, [258.into()]);
+//! // where the type is known, a typed view needs neither the format nor the copy
+//! assert_eq!(view.cast::<pybuf::Le<u16>>()?.get(1)?.0, 258);
 //! # Ok::<(), pybuf::Error>(())
 //! ```
 #![deny(missing_docs, unsafe_op_in_unsafe_fn)]

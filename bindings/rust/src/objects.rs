@@ -670,6 +670,13 @@ macro_rules! owners {
             }
         }
 
+        impl Default for $owner {
+            /// No bytes. It panics if memory runs out.
+            fn default() -> $owner {
+                $owner::from(b"")
+            }
+        }
+
         impl FromIterator<u8> for $owner {
             fn from_iter<I: IntoIterator<Item = u8>>(bytes: I) -> $owner {
                 $owner::from(&bytes.into_iter().collect::<Vec<u8>>()[..])

@@ -205,6 +205,7 @@ fn owners_are_as_other_collections() {
     owner(|bytes| Bytes::from(bytes));
     owner(|bytes| bytes.iter().copied().collect::<ByteArray>());
     owner(|bytes| bytes.iter().copied().collect::<Bytes>());
+    assert!(Bytes::default().is_empty() && ByteArray::default() == *b"");
     let bytes = Bytes::from(b"abcd");
     assert_eq!((bytes.len(), bytes.is_empty(), bytes.get(-1), bytes.get(4)), (4, false, Ok(100), Err(Error::Index)));
     assert_eq!((bytes.contains(b"bc"), bytes.contains(b"cb"), bytes.contains(b"")), (Ok(true), Ok(false), Ok(true)));
