@@ -11,6 +11,7 @@ extern "C" {
 const CALLS: i64 = 1_000_000;
 
 fn timed(name: &str, mut call: impl FnMut(i64) -> Result<(), Error>) -> Result<(), Error> {
+    // SAFETY: the call takes nothing, and may be made at any time; the same holds below.
     let start = unsafe { clock() };
     for i in 0..CALLS {
         call(i)?;

@@ -102,6 +102,7 @@ extern "C" {
     pub fn pybuf_property_text(world: World, object: u64, property: i32, room: *mut u8, room_length: usize, length: *mut usize) -> i32;
     pub fn pybuf_compare(world: World, object: u64, op: i32, bytes: *const u8, length: usize, truth: *mut i32) -> i32;
     pub fn pybuf_compare_with(world: World, object: u64, op: i32, other: u64, truth: *mut i32) -> i32;
+    pub fn pybuf_contains(world: World, object: u64, bytes: *const u8, length: usize, truth: *mut bool) -> i32;
     pub fn pybuf_shown(world: World, object: u64, room: *mut u8, room_length: usize, length: *mut usize) -> i32;
     pub fn pybuf_append(world: World, array: u64, byte: Number) -> i32;
     pub fn pybuf_extend(world: World, array: u64, bytes: *const u8, length: usize) -> i32;

@@ -1,6 +1,7 @@
 //! Formats of Python's module `struct`.
 use crate::calls::{self, copied, done, Number, RawFormat, RawValue};
 use crate::error::{Error, Result};
+use crate::items::Fields;
 use std::fmt;
 use std::ptr;
 
@@ -88,10 +89,15 @@ pub struct Format {
     text: String,
 }
 
-// In each block below the format is alive, no other call uses it, and each pointer points to a place of this call that is as long
+// SAFETY, of each unsafe block below: the format is alive, no other call uses it, and each pointer points to a place of this call that is as long
 // as the call says.
 impl Format {
     /// The format that a text spells.
+    ///
+    /// ```
+    /// assert!(pybuf::Format::new("<HB").is_ok());
+    /// # Ok::<(), pybuf::Error>(())
+    /// ```
     pub fn new(text: &str) -> Result<Format> {
         let mut pointer = ptr::null_mut();
         done(unsafe { calls::pybuf_format_parse(text.as_ptr(), text.len(), &mut pointer) })?;
@@ -100,6 +106,12 @@ impl Format {
     }
 
     /// The number of bytes.
+    ///
+    /// ```
+    /// let format = pybuf::Format::new("<HB")?;
+    /// assert_eq!(format.size()?, 3);
+    /// # Ok::<(), pybuf::Error>(())
+    /// ```
     pub fn size(&self) -> Result<usize> {
         let mut size = 0;
         done(unsafe { calls::pybuf_format_size(self.pointer, &mut size) })?;
@@ -107,6 +119,12 @@ impl Format {
     }
 
     /// The number of values.
+    ///
+    /// ```
+    /// let format = pybuf::Format::new("<HB")?;
+    /// assert_eq!(format.count()?, 2);
+    /// # Ok::<(), pybuf::Error>(())
+    /// ```
     pub fn count(&self) -> Result<usize> {
         let mut count = 0;
         done(unsafe { calls::pybuf_format_count(self.pointer, &mut count) })?;
@@ -114,6 +132,12 @@ impl Format {
     }
 
     /// The bytes of the values.
+    ///
+    /// ```
+    /// let format = pybuf::Format::new("<HB")?;
+    /// assert_eq!(format.pack(&[513.into(), 7.into()])?, [1, 2, 7]);
+    /// # Ok::<(), pybuf::Error>(())
+    /// ```
     pub fn pack(&self, values: &[Value]) -> Result<Vec<u8>> {
         let mut room = Vec::new();
         room.try_reserve_exact(self.size()?).map_err(|_| Error::NoMemory)?;
@@ -123,6 +147,14 @@ impl Format {
     }
 
     /// Writes the bytes of the values to the front of a room, and says how many they are. A refusal changes nothing.
+    ///
+    /// ```
+    /// let format = pybuf::Format::new("<HB")?;
+    /// let mut room = [9; 4];
+    /// assert_eq!(format.pack_into(&mut room, &[513.into(), 7.into()])?, 3);
+    /// assert_eq!(room, [1, 2, 7, 9]);
+    /// # Ok::<(), pybuf::Error>(())
+    /// ```
     pub fn pack_into(&self, room: &mut [u8], values: &[Value]) -> Result<usize> {
         let values = values.iter().map(Value::raw).collect::<Result<Vec<_>>>()?;
         let mut length = 0;
@@ -133,6 +165,12 @@ impl Format {
     }
 
     /// The values of the bytes.
+    ///
+    /// ```
+    /// let format = pybuf::Format::new("<HB")?;
+    /// assert_eq!(format.unpack(&[1, 2, 7])?, [513.into(), 7.into()]);
+    /// # Ok::<(), pybuf::Error>(())
+    /// ```
     pub fn unpack(&self, bytes: &[u8]) -> Result<Vec<Value>> {
         let mut read = vec![RawValue::default(); self.count()?];
         let mut count = 0;
@@ -140,6 +178,18 @@ impl Format {
             calls::pybuf_format_unpack(self.pointer, bytes.as_ptr(), bytes.len(), read.as_mut_ptr(), read.len(), &mut count)
         })?;
         read.iter().enumerate().map(|(index, value)| self.value(index, value)).collect()
+    }
+
+    /// The record of the bytes, as a tuple.
+    ///
+    /// ```
+    /// let format = pybuf::Format::new("<HB")?;
+    /// let (number, byte): (u16, u8) = format.unpack_as(&[1, 2, 7])?;
+    /// assert_eq!((number, byte), (513, 7));
+    /// # Ok::<(), pybuf::Error>(())
+    /// ```
+    pub fn unpack_as<T: Fields>(&self, bytes: &[u8]) -> Result<T> {
+        T::of_values(self.unpack(bytes)?)
     }
 
     fn value(&self, index: usize, value: &RawValue) -> Result<Value> {
@@ -161,7 +211,7 @@ impl fmt::Debug for Format {
 
 impl Drop for Format {
     fn drop(&mut self) {
-        // The format is ours, and is not used again.
+        // SAFETY: the format is ours, and is not used again.
         unsafe { calls::pybuf_format_free(self.pointer) };
     }
 }
