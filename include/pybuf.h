@@ -4,7 +4,8 @@
  * it is passed and calls the proved library. docs/tasks/install.md has a first program.
  *
  * What a caller owes, and nothing tests:
- *   - A world or a format is used by one call at a time. Another thread may use it once a lock or a join stands between.
+ *   - A world or a format is used by one call at a time. Another thread may use it, or free it, once a lock or a join stands
+ *     between. That it may go to another thread is proved.
  *   - A world or a format that was freed, or a pointer that came from nowhere, is not passed on.
  *   - A pointer and a length name memory that is there, that is the caller's to read (or to write, where it is a room), and
  *     that no other thread changes during the call.

@@ -1,6 +1,7 @@
 /* Tests what the calls of pybuf.h check before they read anything, and how they tell about rooms and results. It prints what is wrong. */
 #include "pybuf.h"
 
+#include <pthread.h>
 #include <stdio.h>
 #include <stdlib.h>
 #include <string.h>
@@ -272,6 +273,31 @@ static void format_rooms(void)
     WANT(PYBUF_OK, pybuf_format_free(format));
 }
 
+/* Another thread uses a world that this one made, and frees it. */
+static void *used_elsewhere(void *given)
+{
+    pybuf_world *world = (pybuf_world *)given;
+    pybuf_status extended = pybuf_extend(world, 0, "def", 3);
+    size_t length = 0;
+    pybuf_status told = pybuf_length(world, 0, &length);
+    pybuf_status freed = pybuf_world_free(world);
+    return extended == PYBUF_OK && told == PYBUF_OK && length == 6 && freed == PYBUF_OK ? given : NULL;
+}
+
+static void threads(void)
+{
+    pybuf_world *world = NULL;
+    pybuf_object array = 7;
+    pthread_t thread;
+    void *back = NULL;
+    WANT(PYBUF_OK, pybuf_world_new(&world));
+    WANT(PYBUF_OK, pybuf_new(world, PYBUF_BYTEARRAY, "abc", 3, &array));
+    HOLDS(array == 0);
+    HOLDS(pthread_create(&thread, NULL, used_elsewhere, world) == 0);
+    HOLDS(pthread_join(thread, &back) == 0);
+    HOLDS(back != NULL);
+}
+
 int main(void)
 {
     pybuf_world *world = NULL;
@@ -283,6 +309,7 @@ int main(void)
     refusals(world);
     format_pointers(world);
     format_rooms();
+    threads();
     WANT(PYBUF_OK, pybuf_world_free(world));
     if (wrong)
         printf("%d wrong\n", wrong);

@@ -6,7 +6,7 @@ ghost use Rattle.pybuf_console.specs.Owned.{address_owns, console_coded};
 use crate::console::Console;
 use pybuf_slot::Block;
 use std::alloc::Global;
-use std::marker::Model;
+use std::marker::{Model, Send};
 use std::ptr;
 
 /// The address of a console, or none. What is let go while it is full isn't freed: `WorldHandle` frees it.
@@ -22,6 +22,9 @@ pub struct ConsoleAddress {
 impl Model for ConsoleAddress {
     ghost also_owns = { λ a. address_owns a.alloc a.at a.full a.console };
 }
+
+// What it owns is a block of plain data, and any thread may free it.
+unsafe impl Send for ConsoleAddress {}
 
 impl ConsoleAddress {
     /// No address.

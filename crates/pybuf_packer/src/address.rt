@@ -6,7 +6,7 @@ ghost use Rattle.pybuf_packer.specs.Owned.{address_owns, packer_coded};
 use crate::packer::Packer;
 use pybuf_slot::Block;
 use std::alloc::Global;
-use std::marker::Model;
+use std::marker::{Model, Send};
 use std::ptr;
 
 /// The address of a packer, or none. What is let go while it is full isn't freed: `FormatHandle` frees it.
@@ -22,6 +22,9 @@ pub struct PackerAddress {
 impl Model for PackerAddress {
     ghost also_owns = { λ a. address_owns a.alloc a.at a.full a.packer };
 }
+
+// What it owns is a block of plain data, and any thread may free it.
+unsafe impl Send for PackerAddress {}
 
 impl PackerAddress {
     /// No address.
