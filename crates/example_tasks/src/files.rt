@@ -1,5 +1,7 @@
 //! Files: what is in them, and one field that is changed in place.
-use pybuf::{Answer, ByteStr, Fault, FormatSpec, Halt, PyByteArray, PyMemoryView, Scalar, Value};
+use pybuf::{
+    Answer, ByteStr, Fault, FormatSpec, Halt, PyByteArray, PyMemoryView, Scalar, Value, View,
+};
 use pybuf_table::Records;
 use std::alloc::Global;
 use std::fmt::Write;
@@ -36,12 +38,12 @@ pub fn change(alloc: Global, file: &mut PyByteArray, out: &mut String) -> Result
 
 /// Writes how many readings a sensor's file has, and their mean.
 pub fn mean(file: &mut PyByteArray, out: &mut String) -> Result<(), Halt> {
-    let state = file.state_mut();
-    let readings = PyMemoryView::of_all(state)?.cast_to(state, "H")?;
-    let count = state.bytes().len() / 2;
+    let mut view = View::of(file)?;
+    let readings = view.cast("H")?;
+    let count = readings.len();
     let mut sum = 0i128;
     for k in 0..count {
-        let reading = readings.index(state, k as isize)?;
+        let reading = readings.get(k as isize)?;
         sum = sum.wrapping_add(reading.number().unwrap_or(0));
     }
     if count > 0 {
@@ -52,17 +54,17 @@ pub fn mean(file: &mut PyByteArray, out: &mut String) -> Result<(), Halt> {
 
 /// Moves the entry of a program twelve bytes on, and says that it is for Linux.
 pub fn patch(file: &mut PyByteArray, out: &mut String) -> Result<(), Halt> {
-    let state = file.state_mut();
-    let header = PyMemoryView::of_all(state)?.slice(state, ..64)?;
-    let magic = header.slice(state, ..4)?.to_vec(state)?;
-    if magic.as_slice() != b"\x7fELF".as_slice() {
+    let mut whole = View::of(file)?;
+    let mut header = whole.slice(..64)?;
+    if header.slice(..4)?.to_vec()?.as_slice() != b"\x7fELF".as_slice() {
         return Err(Halt::Refused(Fault::Value));
     }
-    let entry = header.slice(state, 24..32)?.cast_to(state, "Q")?;
-    let old = entry.index(state, 0)?.number().unwrap_or(0);
-    entry.set(state, 0, old.wrapping_add(12))?;
-    header.set(state, 7, 3)?;
-    writeln!(out, "{old} {}", entry.index(state, 0)?)?;
+    header.set(7, 3)?;
+    let mut field = header.slice(24..32)?;
+    let mut entry = field.cast("Q")?;
+    let old = entry.get(0)?.number().unwrap_or(0);
+    entry.set(0, old.wrapping_add(12))?;
+    writeln!(out, "{old} {}", entry.get(0)?)?;
     Ok(())
 }
 

@@ -2,6 +2,7 @@
 use pybuf_object::PyByteArray;
 use pybuf_scoped::{Stop, View, ViewGroup};
 use pybuf_value::{Fault, Halt, Item, PySlice, Scalar};
+use std::alloc::Global;
 use std::process::Abort;
 use std::test::Fail;
 
@@ -86,5 +87,37 @@ fn a_group_shares_its_bytes(rt: HostRuntime) -> Result<(), Fail> {
     write_by_group(&rt, &mut array)?;
     array.push(33)?;
     assert!(rt; array.as_slice() == b"\x05\x02\x01\x02!".as_slice());
+    Ok(())
+}
+
+/// The sentences of refusals, a line each.
+fn tell_refusals(alloc: Global, array: &mut PyByteArray, told: &mut Vec<u8>) -> Result<(), Halt> {
+    let mut view = View::of(array)?;
+    tell(alloc, told, view.get(7).err())?;
+    tell(alloc, told, view.set(0, 256).err())?;
+    tell(alloc, told, view.assign(0..2, b"x").err())?;
+    Ok(())
+}
+
+fn tell(alloc: Global, told: &mut Vec<u8>, stop: Option<Stop>) -> Result<(), Halt> {
+    if let Some(stop) = stop {
+        let text = stop.to_string(alloc)?;
+        told.extend_from_slice(text.as_bytes())?;
+        told.push(b'\n')?;
+    }
+    Ok(())
+}
+
+#[test]
+fn a_refusal_tells_its_cause(rt: HostRuntime) -> Result<(), Fail> {
+    let mut array = PyByteArray::from_slice(rt.alloc(), b"abc")?;
+    let mut told = Vec::new(rt.alloc());
+    tell_refusals(rt.alloc(), &mut array, &mut told)?;
+    let wanted = concat!(
+        "the item at index 7 of 3 can't be read, since there is no such item\n",
+        "the number 256 can't be written at index 0 of 3, since the view may only be read, or has no dimension, or its format doesn't take the number\n",
+        "1 bytes can't be written over this slice of 3 entries, since the step is 0, the items aren't single bytes, or their number is another\n",
+    );
+    assert!(rt; told.as_slice() == wanted.as_bytes());
     Ok(())
 }
