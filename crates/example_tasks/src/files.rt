@@ -38,9 +38,9 @@ pub fn change(alloc: Global, file: &mut PyByteArray, out: &mut String) -> Result
 
 /// Writes how many readings a sensor's file has, and their mean.
 pub fn mean(file: &mut PyByteArray, out: &mut String) -> Result<(), Halt> {
+    let count = file.as_slice().len() / 2;
     let mut view = View::of(file)?;
     let readings = view.cast("H")?;
-    let count = readings.len();
     let mut sum = 0i128;
     for k in 0..count {
         let reading = readings.get(k as isize)?;
