@@ -135,15 +135,21 @@ fn write_cause<W: fmt::Write>(cause: Cause, f: &mut fmt::Formatter<W>) -> fmt::R
             f,
             "the number {number} can't be written at index {index} of {length}"
         ),
-        Cause::Slice { length } => write!(f, "a view of {length} entries can't be sliced so"),
-        Cause::Format { length } => write!(f, "a view of {length} entries can't be cast so"),
+        Cause::Slice { length } => write!(
+            f,
+            "this slice of a view of length {length} can't be made"
+        ),
+        Cause::Format { length } => write!(
+            f,
+            "a view of length {length} can't be cast to this format"
+        ),
         Cause::Bytes { given, length } => {
             write!(
                 f,
-                "{given} bytes can't be written over this slice of {length} entries"
+                "bytes of length {given} can't be written over this slice of a view of length {length}"
             )
         }
-        Cause::Content => f.write_str("the bytes of the view can't be had"),
+        Cause::Content => f.write_str("the bytes of the view can't be lent"),
     }
 }
 
@@ -154,7 +160,8 @@ fn value_text(cause: Cause) -> &'static str {
         Cause::Bytes {
             given: _,
             length: _,
-        } => "the step is 0, the items aren't single bytes, or their number is another",
+        } =>
+            "the step is 0, the items aren't single bytes, or the slice picks another number of them",
         _ => "the value can't be used",
     }
 }
@@ -196,7 +203,7 @@ fn reason(halt: Halt, cause: Cause) -> &'static str {
     }
 }
 
-/// One sentence: what was asked, and why it can't be had.
+/// One sentence: what was asked, and why it isn't done.
 impl fmt::Display for Stop {
     fn fmt<W: fmt::Write>(&self, f: &mut fmt::Formatter<W>) -> fmt::Result {
         write_cause(self.cause, f)?;

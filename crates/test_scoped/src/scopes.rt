@@ -116,7 +116,7 @@ fn a_refusal_tells_its_cause(rt: HostRuntime) -> Result<(), Fail> {
     let wanted = concat!(
         "the item at index 7 of 3 can't be read, since there is no such item\n",
         "the number 256 can't be written at index 0 of 3, since the view may only be read, or has no dimension, or its format doesn't take the number\n",
-        "1 bytes can't be written over this slice of 3 entries, since the step is 0, the items aren't single bytes, or their number is another\n",
+        "bytes of length 1 can't be written over this slice of a view of length 3, since the step is 0, the items aren't single bytes, or the slice picks another number of them\n",
     );
     assert!(rt; told.as_slice() == wanted.as_bytes());
     Ok(())
