@@ -1,5 +1,5 @@
 -- Why a call gives nothing, and the answers of calls that tell it.
-use Rattle.std.specs.Prelude.{◌≡◌, Option, Some, None, Result, IfErr}
+use Rattle.std.specs.Prelude.{◌≡◌, Option, Some, None, Result, Err, IfErr}
 use Rattle.std.specs.Result.{result_map_both}
 use Rattle.std.specs.Borrow.{Bor}
 use Rattle.pybuf_value.specs.Halting.{Answered}
@@ -21,6 +21,11 @@ halted result = result_map_both (λ x. x) (λ stop. stop.halt) result
 -- a call that gives nothing says what was asked
 abbrev pub Tells : {X : Type 0} → Cause → Result X Stop → Type 0
 Tells cause result = IfErr result (λ stop. stop.cause ≡ cause)
+
+-- a refusal is that of a definition; want of memory says nothing of it
+abbrev pub RefusedAs : {A : Type 0} → Result A Fault → Halt → Type 0
+RefusedAs given (halt.Refused f) = given ≡ Err f
+RefusedAs given halt.NoMemory = Unit {0}
 
 -- what is lent is what a definition says, or its refusal stands in its place
 abbrev pub LendsBytes : {X : Type 0} → Result X Fault → Result (Bor X) Stop → Type 0

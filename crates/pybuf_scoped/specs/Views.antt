@@ -11,6 +11,7 @@ use Rattle.pybuf_verbs_views.specs.Slice.{slice_of_view}
 use Rattle.pybuf_verbs_writes.specs.Assign.{bytes_assigned}
 use Rattle.pybuf_exporter.specs.Stored.{StoredExporter}
 use Rattle.pybuf_scoped.specs.declared.view.View.{View}
+use Rattle.pybuf_scoped.specs.Stops.{RefusedAs}
 
 -- the exporter after a change that may be refused
 abbrev pub changed_or : Exporter → Result Exporter Fault → Exporter
@@ -61,3 +62,7 @@ AssignsBytes Converts k bytes old result new =
 -- a view of the slice that was converted is made
 abbrev pub SlicesTo : (PySlice → Type 0) → Exporter → ℕ → Exporter → ℕ → Type 0
 SlicesTo Converts old k new number = (s : PySlice) × Converts s × (slice_of_view old k s ≡ Ok (new, reply.View number))
+
+-- a view of the slice that was converted is refused so
+abbrev pub RefusesSlice : (PySlice → Type 0) → Exporter → ℕ → Halt → Type 0
+RefusesSlice Converts old k halt = (s : PySlice) × Converts s × RefusedAs (slice_of_view old k s) halt

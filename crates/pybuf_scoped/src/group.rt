@@ -13,7 +13,7 @@ ghost use Rattle.pybuf_verbs_reads.specs.ToBytes.{bytes_of_view};
 ghost use Rattle.pybuf_exporter.specs.Stepping.{number_put};
 ghost use Rattle.pybuf_exporter.specs.Telling.{TellsRefusal};
 ghost use Rattle.pybuf_scoped.specs.declared.stop.Cause.{Cause};
-ghost use Rattle.pybuf_scoped.specs.Stops.{halted, Tells, LendsBytes};
+ghost use Rattle.pybuf_scoped.specs.Stops.{halted, Tells, RefusedAs, LendsBytes};
 ghost use Rattle.pybuf_scoped.specs.Views.{entries_of, released_run};
 
 use crate::owner::Owner;
@@ -72,7 +72,7 @@ impl<'a, O: Owner> Drop for ViewGroup<'a, O> {
 }
 
 impl<'a, O: Owner> ViewGroup<'a, O> {
-    ghost use Rattle.pybuf_scoped.specs.Views.{EndsWith, AssignsBytes, SlicesTo};
+    ghost use Rattle.pybuf_scoped.specs.Views.{EndsWith, AssignsBytes, SlicesTo, RefusesSlice};
 
     /// A group without views. Takes no memory.
     /// Example: `ViewGroup::of(&mut array)` of `bytearray(b"abc")` has no view yet.
@@ -118,6 +118,7 @@ impl<'a, O: Owner> ViewGroup<'a, O> {
         ensures same_reference { self.new.owner.ghost_name ≡ self.old.owner.ghost_name }
         ensures first { self.new.first ≡ self.old.first }
         ensures made { IfOk result (λ made. SlicesTo (S.converts slice) (O.exporter self.old.owner.now) member.now.number (O.exporter self.new.owner.now) made.number) }
+        ensures refused { IfErr result (λ stop. RefusesSlice (S.converts slice) (O.exporter self.old.owner.now) member.now.number stop.halt) }
         ensures err { OnErr result (O.exporter self.new.owner.now ≡ O.exporter self.old.owner.now) }
         ensures owner { EndsWith O.with self.old.owner.now (O.exporter self.new.owner.now) self.new.owner.now }
         ensures cause { Tells (Cause.Slice (entries_of (O.exporter self.old.owner.now) member.now.number)) result }
@@ -144,6 +145,7 @@ impl<'a, O: Owner> ViewGroup<'a, O> {
         ensures same_reference { self.new.owner.ghost_name ≡ self.old.owner.ghost_name }
         ensures first { self.new.first ≡ self.old.first }
         ensures made { IfOk result (λ made. flat_cast_of_view (O.exporter self.old.owner.now) member.now.number format.now ≡ Ok (O.exporter self.new.owner.now, replies.View made.number)) }
+        ensures refused { IfErr result (λ stop. RefusedAs (flat_cast_of_view (O.exporter self.old.owner.now) member.now.number format.now) stop.halt) }
         ensures err { OnErr result (O.exporter self.new.owner.now ≡ O.exporter self.old.owner.now) }
         ensures owner { EndsWith O.with self.old.owner.now (O.exporter self.new.owner.now) self.new.owner.now }
         ensures cause { Tells (Cause.Format (entries_of (O.exporter self.old.owner.now) member.now.number)) result }

@@ -15,7 +15,7 @@ ghost use Rattle.pybuf_verbs_reads.specs.ToBytes.{bytes_of_view};
 ghost use Rattle.pybuf_exporter.specs.Stepping.{number_put};
 ghost use Rattle.pybuf_exporter.specs.Telling.{TellsRefusal};
 ghost use Rattle.pybuf_scoped.specs.declared.stop.Cause.{Cause};
-ghost use Rattle.pybuf_scoped.specs.Stops.{halted, Tells, LendsBytes};
+ghost use Rattle.pybuf_scoped.specs.Stops.{halted, Tells, RefusedAs, LendsBytes};
 ghost use Rattle.pybuf_scoped.specs.Views.{entries_of, EndsWith};
 
 use crate::owner::Owner;
@@ -97,7 +97,7 @@ impl<'a, O: Owner> Owner for View<'a, O> {
 }
 
 impl<'a, O: Owner> View<'a, O> {
-    ghost use Rattle.pybuf_scoped.specs.Views.{AssignsBytes, SlicesTo};
+    ghost use Rattle.pybuf_scoped.specs.Views.{AssignsBytes, SlicesTo, RefusesSlice};
 
     /// A view of all bytes, as Python's `memoryview(object)`. It is never refused, and stops only where memory runs
     /// out.
@@ -234,6 +234,7 @@ impl<'a, O: Owner> View<'a, O> {
         ensures made { IfOk result (λ view. flat_cast_of_view (O.exporter self.old.owner.now) self.old.number format.now ≡ Ok (O.exporter view.owner.now.owner.now, replies.View view.number)) }
         ensures parent { IfOk result (λ view. (view.owner.now.number ≡ self.old.number) × (view.owner.now.owner.ghost_name ≡ self.old.owner.ghost_name)) }
         ensures owner { IfOk result (λ view. EndsWith O.with self.old.owner.now (O.exporter view.owner.now.owner.now) view.owner.now.owner.now) }
+        ensures refused { IfErr result (λ stop. RefusedAs (flat_cast_of_view (O.exporter self.old.owner.now) self.old.number format.now) stop.halt) }
         ensures cause { Tells (Cause.Format (entries_of (O.exporter self.old.owner.now) self.old.number)) result }
     {
         let length = self.len();
@@ -261,6 +262,7 @@ impl<'a, O: Owner> View<'a, O> {
         ensures made { IfOk result (λ view. shaped_cast_of_view (O.exporter self.old.owner.now) self.old.number format.now shape.now ≡ Ok (O.exporter view.owner.now.owner.now, replies.View view.number)) }
         ensures parent { IfOk result (λ view. (view.owner.now.number ≡ self.old.number) × (view.owner.now.owner.ghost_name ≡ self.old.owner.ghost_name)) }
         ensures owner { IfOk result (λ view. EndsWith O.with self.old.owner.now (O.exporter view.owner.now.owner.now) view.owner.now.owner.now) }
+        ensures refused { IfErr result (λ stop. RefusedAs (shaped_cast_of_view (O.exporter self.old.owner.now) self.old.number format.now shape.now) stop.halt) }
         ensures cause { Tells (Cause.Format (entries_of (O.exporter self.old.owner.now) self.old.number)) result }
     {
         let length = self.len();
@@ -291,6 +293,7 @@ impl<'a, O: Owner> View<'a, O> {
         ensures made { IfOk result (λ view. SlicesTo (S.converts slice) (O.exporter self.old.owner.now) self.old.number (O.exporter view.owner.now.owner.now) view.number) }
         ensures parent { IfOk result (λ view. (view.owner.now.number ≡ self.old.number) × (view.owner.now.owner.ghost_name ≡ self.old.owner.ghost_name)) }
         ensures owner { IfOk result (λ view. EndsWith O.with self.old.owner.now (O.exporter view.owner.now.owner.now) view.owner.now.owner.now) }
+        ensures refused { IfErr result (λ stop. RefusesSlice (S.converts slice) (O.exporter self.old.owner.now) self.old.number stop.halt) }
         ensures cause { Tells (Cause.Slice (entries_of (O.exporter self.old.owner.now) self.old.number)) result }
     {
         let length = self.len();
