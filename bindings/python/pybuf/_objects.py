@@ -705,10 +705,12 @@ class MemoryView(_Object, Uncopied):
         number = index_of(value)
         name, *rest = arguments
         wide = abs(number) >= 1 << 64
-        status = self._world.ask(name, self._object, *rest, Number.of(0 if wide else number))
-        if status == Status.OK and not wide:
+        if wide and self.readonly:
+            raise TypeError('cannot modify read-only memory')
+        status = Status.TYPE_ERROR if wide else self._world.ask(name, self._object, *rest, Number.of(number))
+        if status == Status.OK:
             return
-        if wide or status == Status.TYPE_ERROR and not self.readonly:
+        if status == Status.TYPE_ERROR and not self.readonly:
             self[key]  # a key is checked before a value
             # the kind was right, so the number doesn't fit, which is ValueError in Python
             raise ValueError(f'memoryview: invalid value for format {self.format!r}')

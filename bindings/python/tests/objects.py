@@ -45,6 +45,16 @@ def raises(kind):
     return said
 
 
+# ---- numbers that don't fit ----
+
+def a_number_that_does_not_fit_changes_nothing(A, M, S):
+    a = A(b'abcdefgh')
+    m = M(a)
+    return told(lambda: m.__setitem__(0, 1 << 70), lambda: m.__setitem__(0, -1 << 70), lambda: m.__setitem__(9, 1 << 70),
+                lambda: m.cast('Q').__setitem__(0, 1 << 64), lambda: m.cast('B', (2, 4)).__setitem__((0, 1), 1 << 99),
+                lambda: m.toreadonly().__setitem__(0, 1 << 70), lambda: m.__setitem__(1, 256), lambda: a)
+
+
 # ---- floats ----
 
 def told(*calls):
