@@ -155,6 +155,7 @@ static int to_slice(PyObject *value, pybuf_slice *slice)
 typedef struct {
     PyObject_HEAD
     pybuf_world *world;
+    pybuf_object last; /* the number of the object that was made last */
 } World;
 
 static PyTypeObject *world_type;
@@ -509,6 +510,7 @@ __attribute__((always_inline)) static inline PyObject *make(PyObject *self, cons
     case 0:
         Py_RETURN_NONE;
     case 'o':
+        ((World *)own->world)->last = made;
         return PyLong_FromUnsignedLongLong(made);
     case 'u':
         return PyLong_FromSize_t(size);
@@ -680,6 +682,43 @@ static PyObject *object_world(PyObject *self, void *none)
     return world;
 }
 
+/* Moves an array to a new world, if what released views left in the old one is more than its bytes, and no view is there. Otherwise, and
+ * where memory runs out, the old world stays. */
+static int renew(Object *own)
+{
+    enum { FEW = 1024, KEPT = 128 }; /* so many views are let be, and a released one keeps more bytes than this */
+    size_t views = own->world && !own->is_view ? (size_t)((World *)own->world)->last : 0;
+    size_t length;
+    pybuf_number exports;
+    pybuf_object made;
+    if (views < FEW || !((World *)own->world)->world || lib.length(((World *)own->world)->world, own->object, &length) || views * KEPT < length)
+        return 1;
+    PyObject *fresh = PyObject_CallNoArgs((PyObject *)Py_TYPE(own->world));
+    if (!fresh)
+        return 0;
+    /* from here on nothing runs Python code */
+    pybuf_world *world = ((World *)own->world)->world;
+    char *bytes = NULL;
+    if (world && !lib.property_number(world, own->object, PYBUF_EXPORTS, &exports) && exports.magnitude == 0 &&
+        !lib.length(world, own->object, &length) && (bytes = PyMem_Malloc(length ? length : 1)) &&
+        !lib.bytes(world, own->object, bytes, length, &length) && !lib.new(((World *)fresh)->world, PYBUF_BYTEARRAY, bytes, length, &made)) {
+        PyObject *old = own->world;
+        own->world = fresh;
+        own->object = made;
+        fresh = old;
+    }
+    PyMem_Free(bytes);
+    Py_DECREF(fresh);
+    return 1;
+}
+
+/* _viewed(): the number of a new view */
+static PyObject *object_viewed(PyObject *self, PyObject *none)
+{
+    (void)none;
+    return renew((Object *)self) ? call_view(self, NULL, 0) : NULL;
+}
+
 /* Takes the bytes of a vector away, so that it holds none. */
 static PyObject *object_drop(PyObject *self, PyObject *none)
 {
@@ -697,6 +736,7 @@ static PyMethodDef object_methods[] = {
     METHODS(X)
 #undef X
     {"_hold", object_hold, METH_VARARGS, "Names the object of a world that this one is."},
+    {"_viewed", object_viewed, METH_NOARGS, "The number of a new view. What released views of an array left may go before."},
     {"_drop", object_drop, METH_NOARGS, "Takes the bytes of a vector away."},
     {"_end", object_released, METH_NOARGS, "Releases the view."},
     {0}};

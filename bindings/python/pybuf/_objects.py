@@ -456,7 +456,8 @@ class MemoryView(_Object, Uncopied):
         if self._world is not None:  # it may be called once more, as with Python's own
             return
         if isinstance(source, (ByteArray, MemoryView)):
-            self._keep(source, source._call_view())
+            made = source._viewed()  # it may move an array to another world
+            self._keep(source, made)
             return
         world = World()
         with memoryview(source) as view:
