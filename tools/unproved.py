@@ -45,7 +45,7 @@ MAIN = """fn main(rt: HostRuntime) -> ExitCode {
 
 # What stands in the program's `src/main.rt`, and what stands there instead if one call serves all cases.
 INSTEAD = {
-    "mod data;\n": "mod data;\nmod each;\n",
+    "mod told;\n": "mod each;\nmod told;\n",
     "use crate::kept::KeptSource;\n": "",
     "use pybuf_cli::{ReaderSource, Status, WriterSink, serve};\n": "use pybuf_cli::Status;\n",
 }
