@@ -1,7 +1,11 @@
-"""Builds the wheel and the sdist of the package, for pip and for `tools/release`. It needs Python's standard library alone.
+"""Builds the wheel and the sdist of the package, for pip and for `tools/release`. It needs Python's standard library, a C compiler and
+Python's headers.
 
-If the shared library lies in the package's folder, the wheel has it, and is for Linux on this processor. Else the wheel is for any
-platform, and the package looks for the library when it is imported. Files have the time that SOURCE_DATE_EPOCH names.
+    python3 build_backend.py     compiles the extension module into the package's folder, as `bindings/build` wants it
+
+The extension module uses Python's stable interface, so one wheel is for Python 3.11 and all later ones, for Linux on this processor. If the
+shared library lies in the package's folder, the wheel has it. Else the package looks for the library when it is imported. Files have the
+time that SOURCE_DATE_EPOCH names.
 """
 import base64
 import gzip
@@ -11,7 +15,11 @@ import os
 import pathlib
 import platform
 import re
+import shlex
+import subprocess
+import sysconfig
 import tarfile
+import tempfile
 import time
 import zipfile
 
@@ -30,11 +38,26 @@ Name: pybuf
 Version: {version()}
 Summary: {SUMMARY}
 License: MIT
-Requires-Python: >=3.9
+Requires-Python: >=3.11
 Classifier: License :: OSI Approved :: MIT License
 Classifier: Operating System :: POSIX :: Linux
 Classifier: Programming Language :: Python :: 3
 '''
+
+
+def header():
+    """The header of the library: beside the modules as in the sdist, or in the repository."""
+    return next(it for it in (HERE / 'pybuf/pybuf.h', HERE.parents[1] / 'include/pybuf.h') if it.is_file())
+
+
+def compile_native(folder):
+    """Compiles the extension module into a folder."""
+    made = pathlib.Path(folder, '_native.abi3.so')
+    compiler = shlex.split(os.environ.get('CC', 'cc'))
+    flags = ['-std=gnu11', '-Wall', '-Wextra', '-Werror', '-O2', '-fPIC', '-shared']
+    folders = [f'-I{it}' for it in (sysconfig.get_path('include'), header().parent)]
+    subprocess.run([*compiler, *flags, *folders, '_native.c', '-o', made.absolute()], cwd=HERE / 'pybuf', check=True)
+    return made
 
 
 def modules():
@@ -55,13 +78,12 @@ def beside():
 
 def build_wheel(wheel_directory, config_settings=None, metadata_directory=None):
     files = modules()
-    tag = 'py3-none-any'
-    if any('.so.' in name for name in files):
-        tag = f'py3-none-linux_{platform.machine()}'
+    with tempfile.TemporaryDirectory() as room:
+        files['pybuf/_native.abi3.so'] = compile_native(room).read_bytes()
+    tag = f'cp311-abi3-linux_{platform.machine()}'
     info = f'pybuf-{version()}.dist-info'
     files[f'{info}/METADATA'] = metadata().encode()
-    pure = 'true' if tag.endswith('any') else 'false'
-    files[f'{info}/WHEEL'] = f'Wheel-Version: 1.0\nGenerator: pybuf\nRoot-Is-Purelib: {pure}\nTag: {tag}\n'.encode()
+    files[f'{info}/WHEEL'] = f'Wheel-Version: 1.0\nGenerator: pybuf\nRoot-Is-Purelib: false\nTag: {tag}\n'.encode()
     files.update({f'{info}/{name}': content for name, content in beside().items()})
     record = ''
     for name, content in sorted(files.items()):
@@ -79,7 +101,8 @@ def build_wheel(wheel_directory, config_settings=None, metadata_directory=None):
 
 def build_sdist(sdist_directory, config_settings=None):
     files = {name: content for name, content in modules().items() if '.so.' not in name}
-    files.update({name: (HERE / name).read_bytes() for name in OWN})
+    files.update({name: (HERE / name).read_bytes() for name in (*OWN, 'pybuf/_native.c')})
+    files['pybuf/pybuf.h'] = header().read_bytes()
     files.update(beside())
     files['PKG-INFO'] = metadata().encode()
     sums = ''.join(f'{hashlib.sha256(content).hexdigest()}  {name}\n' for name, content in sorted(files.items()))
@@ -92,3 +115,7 @@ def build_sdist(sdist_directory, config_settings=None):
                 entry.size, entry.mtime, entry.mode = len(content), moment(), 0o644
                 tar.addfile(entry, io.BytesIO(content))
     return made
+
+
+if __name__ == '__main__':
+    compile_native(HERE / 'pybuf')

@@ -1,11 +1,9 @@
 """`Struct`, which behaves as Python's `struct.Struct`."""
-import ctypes
 import functools
 import re
-import threading
 
-from ._calls import (BYTES_VALUE, TRUTH_VALUE, Number, Status, Uncopied, Value, call, index_of, raise_for, raw, struct_error, text_by,
-                     values_by, word_of)
+from . import _native
+from ._calls import Uncopied, index_of, struct_error, word_of
 from ._floats import BITS, bits_of, float_of
 from ._objects import ByteArray, MemoryView, _lent_whole
 
@@ -50,12 +48,8 @@ def _carried(format):
 class Struct(Uncopied):
     """A format of the module `struct`."""
 
-    _pointer = None
-
-    def __new__(cls, *arguments, **named):
-        made = super().__new__(cls)
-        made._turn = threading.RLock()
-        return made
+    def __new__(cls, *arguments, **named):  # as in Python, a class below may pass on what it was given
+        return super().__new__(cls)
 
     def __init__(self, format):
         if isinstance(format, bytes):
@@ -66,33 +60,15 @@ class Struct(Uncopied):
         carried = _carried(format).encode('ascii')
         if b'\0' in carried:
             raise struct_error('embedded null character')
-        pointer = ctypes.c_void_p()
         try:
-            call('format_parse', carried, len(carried), ctypes.byref(pointer))
+            self._parsed = _native.Format(carried)
         except struct_error:
             raise struct_error('bad char in struct format') from None
-        with self._turn:
-            self._free()  # this matters if `__init__` is called once more
-            self._pointer = pointer
-            self.format = format
-            self.size = self._told('format_size')
-            self._count = self._told('format_count')
-            vars(self).pop('_codes', None)
-
-    def _free(self, free=raw['format_free']):  # at the interpreter's exit the module's names may be gone
-        if self._pointer:
-            pointer, self._pointer = self._pointer, None
-            free(pointer)
-
-    __del__ = _free
+        self.format, self.size, self._count = format, self._parsed.size, self._parsed.count
+        vars(self).pop('_codes', None)  # this matters if `__init__` is called once more
 
     def __repr__(self):
         return f'Struct({self.format!r})'
-
-    def _told(self, name):
-        told = ctypes.c_size_t()
-        call(name, self._pointer, ctypes.byref(told))
-        return told.value
 
     @functools.cached_property
     def _codes(self):
@@ -103,16 +79,11 @@ class Struct(Uncopied):
     def pack(self, *values):
         if len(values) != self._count:
             raise struct_error(f'pack expected {self._count} items for packing (got {len(values)})')
-        words = (Value * max(self._count, 1))(*map(_packed_as, self._codes, values))
-        room = ctypes.create_string_buffer(max(self.size, 1))
-        length = ctypes.c_size_t()
-        with self._turn:
-            status = raw['format_pack'](self._pointer, words, self._count, room, self.size, ctypes.byref(length))
-            if status == Status.STRUCT_ERROR:  # the values are of their kinds, so one doesn't fit
-                raise struct_error(self._misfit(values))
-            if status:
-                raise_for(status)
-        return room.raw[:length.value]
+        packed = tuple(map(_packed_as, self._codes, values))
+        try:
+            return self._parsed.pack(packed)
+        except struct_error:  # the values are of their kinds, so one doesn't fit
+            raise struct_error(self._misfit(values)) from None
 
     def _misfit(self, values):
         """Python's message for the first number that doesn't fit its code."""
@@ -157,18 +128,10 @@ class Struct(Uncopied):
         return _Values(self, content)
 
     def _values(self, content):
-        with self._turn:  # the format keeps the bytes of its values until the next call
-            read = values_by(self._count, 'format_unpack', self._pointer, content, len(content))
-            return tuple(self._value(index, value) for index, value in enumerate(read))
-
-    def _value(self, index, value):
-        if value.kind == BYTES_VALUE:
-            return text_by(raw['format_value_bytes'], self._pointer, index)
-        number = value.number.value()
-        if value.kind == TRUTH_VALUE:
-            return bool(number)
-        code = self._codes[index]
-        return float_of(code, number) if code in BITS else number
+        values = self._parsed.unpack(content)
+        if not any(code in self._codes for code in BITS):
+            return values
+        return tuple(float_of(code, value) if code in BITS else value for code, value in zip(self._codes, values))
 
 
 class _Values:
@@ -194,23 +157,23 @@ class _Values:
 def _packed_as(code, value):
     """A value for a call. A value of a wrong kind is refused as Python refuses it."""
     if code == '?':
-        return Value.of_number(Number.of(bool(value)), TRUTH_VALUE)
+        return bool(value)
     if code == 'c':
         if not isinstance(value, bytes) or len(value) != 1:
             raise struct_error('char format requires a bytes object of length 1')
-        return Value.of_bytes(value)
+        return value
     if code in 'sp':
         if not isinstance(value, (bytes, bytearray, ByteArray)):
             raise struct_error(f"argument for '{code}' must be a bytes object")
-        return Value.of_bytes(bytes(value))
+        return bytes(value)
     if code in BITS:
-        return Value.of_number(Number.of(bits_of(code, value)))
+        return bits_of(code, value)
     if not hasattr(type(value), '__index__'):
         raise struct_error('required argument is not an integer')
     number = index_of(value)
     if code == 'P' and -1 << 63 <= number < 0:  # as in Python, a pointer is counted from the end of the memory
         number += 1 << 64
-    return Value.of_number(Number.of(number if abs(number) < 1 << 64 else _PAST_ALL))
+    return number if abs(number) < 1 << 64 else _PAST_ALL
 
 
 # As Python's module does, the functions below keep the formats that were used last.

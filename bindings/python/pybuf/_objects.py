@@ -1,13 +1,13 @@
 """`ByteArray` and `MemoryView`, which behave as Python's own.
 
 Each `ByteArray` has a world of its own, which its views share and which is freed with the last of them. If two worlds do something
-together, it is done by copies. So no thread waits for the turn of one world while it has that of another.
+together, it is done by copies.
 """
 import ast
-import ctypes
 import math
 
-from ._calls import Number, Slice, Status, Uncopied, index_of, numbers_by, raise_for, struct_error, text_by, word_of
+from . import _native
+from ._calls import Status, Uncopied, index_of, raise_for, struct_error, word_of
 from ._floats import BITS, bits_of, float_of
 from ._worlds import BadLine, World
 
@@ -80,21 +80,20 @@ def carried(format):
 
 
 def _copied(world, view):
-    """Copies the items of a view of ours or of Python's into a world. The last of the numbers that it answers is that of a view of
-    the copy, with the same format and shape, the first that of the copy, and the others those of views on the way. A format that
-    `cast` doesn't take is its ValueError."""
+    """Copies the items of a view of ours or of Python's into a world: the exporter of the copy, and a view of it with the same format and
+    shape. A format that `cast` doesn't take is its ValueError."""
     shape, format, content = list(view.shape), carried(view.format).encode(), view.tobytes()
     none = shape[:1] == [0]
     if none:  # a cast can't make a view without items, but a slice can
         shape[0] = 1
         content = bytes(view.itemsize * math.prod(shape))
-    made = [world.made('new', _VECTOR, content, len(content))]
-    made.append(world.made('view', made[-1]))
+    exporter = _held(world, world._new(_VECTOR, content), False)
+    made = _held(world, exporter._call_view(), True)
     if not _is_of_bytes(view):
-        made.append(world.made('cast', made[-1], format, (ctypes.c_int64 * max(len(shape), 1))(*shape), len(shape)))
+        made = _held(world, made._call_cast(format, shape), True)
     if none:
-        made.append(world.made('get_slice', made[-1], ctypes.byref(Slice.of(slice(0, 0)))))
-    return made
+        made = _held(world, made._call_get_slice(slice(0, 0)), True)
+    return exporter, made
 
 
 def _byte(value):
@@ -102,23 +101,12 @@ def _byte(value):
     number = index_of(value)
     if not 0 <= number <= 255:
         raise ValueError('byte must be in range(0, 256)')
-    return Number.of(number)
+    return number
 
 
-def _truth(world, name, *arguments):
-    """The answer of a comparison in a world."""
-    truth = ctypes.c_int()
-    status = world.ask(name, *arguments, ctypes.byref(truth))
-    if status:
-        raise_for(status)
-    return NotImplemented if truth.value == 2 else bool(truth.value)
-
-
-class _Object:
+class _Object(_native.Object):
     """An object that a world and a number name."""
 
-    _world = None
-    _object = None
     # Python's messages, by a status, or by the name of a call and a status
     _messages = {}
 
@@ -127,43 +115,17 @@ class _Object:
         known = self._messages.get((name, status)) or self._messages.get(status)
         raise_for(status, *[known] if known else [])
 
-    def _call(self, name, *arguments):
-        status = self._world.ask(name, self._object, *arguments)
-        if status:
-            self._refuse(name, status)
-
-    def _one(self, name, *arguments):
-        made = ctypes.c_uint64()
-        self._call(name, *arguments, ctypes.byref(made))
-        return made.value
-
-    def _number(self, name, *arguments):
-        number = Number()
-        self._call(name, *arguments, ctypes.byref(number))
-        return number.value()
-
-    def _text(self, name, *arguments):
-        return text_by(self._world.ask, name, self._object, *arguments, refuse=lambda status: self._refuse(name, status))
-
-    def _numbers(self, name, *arguments):
-        return numbers_by(self._world.ask, name, self._object, *arguments, refuse=lambda status: self._refuse(name, status))
-
-    def __len__(self):
-        length = ctypes.c_size_t()
-        self._call('length', ctypes.byref(length))
-        return length.value
-
     def tobytes(self):
         """A copy of the bytes."""
-        return self._text('bytes')
+        return self._call_bytes()
 
     def _compares(self, operator, other):
         if isinstance(other, _Object) and other._world is self._world:
-            return _truth(self._world, 'compare_with', self._object, _OPERATORS[operator], other._object)
+            return self._call_compare_with(_OPERATORS[operator], other)
         return self._compares_outside(operator, other)
 
     def _compares_with_bytes(self, operator, content):
-        return _truth(self._world, 'compare', self._object, _OPERATORS[operator], content, len(content))
+        return self._call_compare(_OPERATORS[operator], content)
 
     def __eq__(self, other):
         return self._compares('==', other)
@@ -172,20 +134,14 @@ class _Object:
         return self._compares('!=', other)
 
 
-class _Items:
-    """The items of an array by their places, from which Python makes an iterator that is pickled, and that ends for good."""
-
-    def __init__(self, array):
-        self.array = array
-
-    def __len__(self):
-        return len(self.array)
-
-    def __getitem__(self, index):
-        return self.array[index]
+def _held(world, number, is_view):
+    """An object of a world by its number. A view is released with the last reference to it."""
+    made = _Object()
+    made._hold(world, number, is_view)
+    return made
 
 
-class ByteArray(_Object):
+class ByteArray(_Object, _native.Array):
     """A bytearray."""
 
     __module__ = 'pybuf'  # the module in which pickle looks for the class
@@ -222,20 +178,15 @@ class ByteArray(_Object):
         content = _content(source) if zeros is None else b'\0'[:zeros]
         if self._world is None:
             world = World()
-            self._object = world.made('new', _BYTEARRAY, content, len(content))
-            self._world = world
-            if zeros:
-                self._call('repeat', zeros)
-            return
-        with self._world.turn:  # `__init__` is called once more
-            self._call('clear')
-            self._call('extend', content, len(content))
-            if zeros:
-                self._call('repeat', zeros)
+            self._hold(world, world._new(_BYTEARRAY, content), False)
+        else:  # `__init__` is called once more
+            self.clear()
+            self._call_extend(content)
+        if zeros:
+            self._call_repeat(zeros)
 
     def __reduce__(self):
-        more = {name: value for name, value in vars(self).items() if name not in ('_world', '_object')}
-        return type(self), (self.tobytes(),), more or None
+        return type(self), (self.tobytes(),), vars(self) or None
 
     def _compares_outside(self, operator, other):
         """Compares with an object of another world, or with one of Python's."""
@@ -252,7 +203,7 @@ class ByteArray(_Object):
         return self.tobytes()
 
     def __iter__(self):
-        return iter(_Items(self))
+        return iter(_native.Items(self))
 
     def __lt__(self, other):
         return self._compares('<', other)
@@ -266,41 +217,32 @@ class ByteArray(_Object):
     def __ge__(self, other):
         return self._compares('>=', other)
 
-    def __getitem__(self, key):
+    def _item_of(self, key):
+        """What stands at a key that is no index."""
         if isinstance(key, slice):
-            return ByteArray(self._text('get_slice_bytes', ctypes.byref(Slice.of(key))))
-        if not hasattr(key, '__index__'):
-            raise TypeError('bytearray indices must be integers or slices')
-        return self._number('get', word_of(key))
+            return ByteArray(self._call_get_slice_bytes(key))
+        raise TypeError('bytearray indices must be integers or slices')
 
-    def __setitem__(self, key, value):
+    def _set_item(self, key, value):
+        """Writes at a key that is no index."""
+        if not isinstance(key, slice):
+            raise TypeError('bytearray indices must be integers or slices')
+        if isinstance(value, str) or _has(value, '__index__', '__int__', '__float__'):
+            raise TypeError('can assign only bytes, buffers, or iterables of ints in range(0, 256)')
+        self._call_set_slice(key, _content(value))
+
+    def _delete_item(self, key):
         if isinstance(key, slice):
-            if isinstance(value, str) or _has(value, '__index__', '__int__', '__float__'):
-                raise TypeError('can assign only bytes, buffers, or iterables of ints in range(0, 256)')
-            content = _content(value)
-            self._call('set_slice', ctypes.byref(Slice.of(key)), content, len(content))
+            self._call_delete_slice(key)
             return
         if not hasattr(key, '__index__'):
             raise TypeError('bytearray indices must be integers or slices')
-        index = word_of(key)
-        self._call('set', index, _byte(value))
-
-    def __delitem__(self, key):
-        if isinstance(key, slice):
-            self._call('delete_slice', ctypes.byref(Slice.of(key)))
-            return
-        if not hasattr(key, '__index__'):
-            raise TypeError('bytearray indices must be integers or slices')
-        self._call('delete', word_of(key))
+        self._call_delete(word_of(key))
 
     def __contains__(self, value):
-        truth = ctypes.c_bool()
         if hasattr(value, '__index__'):
-            self._call('contains_byte', _byte(value), ctypes.byref(truth))
-        else:
-            content = _lent(value)
-            self._call('contains', content, len(content), ctypes.byref(truth))
-        return truth.value
+            return self._call_contains_byte(value)
+        return self._call_contains(_lent(value))
 
     def __add__(self, other):
         return ByteArray(self.tobytes() + _added(other))
@@ -319,7 +261,7 @@ class ByteArray(_Object):
         content = _added(other)
         if other is self and content:  # the array's own bytes are lent meanwhile
             raise BufferError('Existing exports of data: object cannot be re-sized')
-        self._call('extend', content, len(content))
+        self._call_extend(content)
         return self
 
     def __mul__(self, count):
@@ -330,34 +272,20 @@ class ByteArray(_Object):
     __rmul__ = __mul__
 
     def __imul__(self, count):
-        self._call('repeat', word_of(count, OverflowError))
+        self._call_repeat(word_of(count, OverflowError))
         return self
-
-    def append(self, value):
-        self._call('append', _byte(value))
 
     def extend(self, values):
         if values is self:
-            self._call('extend_by', self._object)
+            self._call_extend_by(self)
             return
-        content = _content(values)
-        self._call('extend', content, len(content))
+        self._call_extend(_content(values))
 
     def insert(self, index, value):
-        index = word_of(index, OverflowError)
-        self._call('insert', index, _byte(value))
+        self._call_insert(word_of(index, OverflowError), value)
 
     def pop(self, index=-1):
-        return self._number('pop', word_of(index, OverflowError))
-
-    def remove(self, value):
-        self._call('remove', _byte(value))
-
-    def clear(self):
-        self._call('clear')
-
-    def reverse(self):
-        self._call('reverse')
+        return self._call_pop(word_of(index, OverflowError))
 
     def copy(self):
         return ByteArray(self.tobytes())
@@ -501,11 +429,9 @@ _HASHED = ('B', 'b', 'c', '@B', '@b', '@c')
 
 
 class MemoryView(_Object, Uncopied):
-    """A view of a `ByteArray` or of another view, or of a copy of any other object with a buffer. It is released with its last
-    reference, before the next call for its bytes."""
+    """A view of a `ByteArray` or of another view, or of a copy of any other object with a buffer. It is released with its last reference."""
 
     _constant = False
-    _released = False
     # the format, if it is asked for by Python code: of floats it isn't that of the library
     _known = None
     _shown = None
@@ -530,25 +456,21 @@ class MemoryView(_Object, Uncopied):
         if self._world is not None:  # it may be called once more, as with Python's own
             return
         if isinstance(source, (ByteArray, MemoryView)):
-            self._keep(source, source._one('view'))
+            made = source._viewed()  # it may move an array to another world
+            self._keep(source, made)
             return
         world = World()
         with memoryview(source) as view:
             try:
-                made = _copied(world, view)[-1]
+                _, made = _copied(world, view)
                 self._shown = view.format if view.format.lstrip('@') in BITS else None
             except ValueError:  # the library has no such items, but it has their bytes
-                made = _copied(world, memoryview(view.tobytes()))[-1]
-            self._object = world.made('to_readonly', made) if view.readonly else made
-        self._world, self._source, self._constant = world, source, isinstance(source, bytes)
-
-    def __del__(self):
-        if self._world is not None and not self._released:
-            self._world.drop(self._object)
+                _, made = _copied(world, memoryview(view.tobytes()))
+            self._hold(world, made._call_to_readonly() if view.readonly else made._call_view(), True)
+        self._source, self._constant = source, isinstance(source, bytes)
 
     def _keep(self, source, made):
-        self._world = source._world
-        self._object = made
+        self._hold(source._world, made, True)
         if isinstance(source, MemoryView):
             self._source, self._constant, self._shown = source._source, source._constant, source._shown
         else:
@@ -560,12 +482,11 @@ class MemoryView(_Object, Uncopied):
         return view
 
     def __repr__(self):
-        return self._text('shown').decode()
+        return self._call_shown().decode()
 
     def release(self):
         """Releases the view. A second time changes nothing."""
-        self._call('release')
-        self._released = True
+        self._end()
 
     def __enter__(self):
         self._alive()
@@ -586,33 +507,32 @@ class MemoryView(_Object, Uncopied):
             raise NotImplementedError('memoryview: sub-views are not implemented')
         return (self[index] for index in range(len(self)))
 
-    def __getitem__(self, key):
+    def _item_of(self, key):
+        """What stands at a key, unless the key is an index and the item a number of the library."""
         if isinstance(key, slice):
             if any(type(part) not in (int, type(None)) for part in (key.start, key.stop, key.step)):
-                self = self._made(self._one('view'))  # a part may run code that releases the view, which doesn't end the slice in Python
-            return self._made(self._one('get_slice', ctypes.byref(Slice.of(key))))
+                self = self._made(self._call_view())  # a part may run code that releases the view, which doesn't end the slice in Python
+            return self._made(self._call_get_slice(key))
         if isinstance(key, tuple):
-            indices = self._indices(key)
-            return self._item('get_at', (ctypes.c_int64 * len(indices))(*indices), len(indices))
-        if not hasattr(key, '__index__'):
+            item = self._call_get_at(self._indices(key))
+        elif hasattr(key, '__index__'):
+            item = self._call_get(key)
+        else:
             self._alive()
             raise TypeError('memoryview: invalid slice key')
-        return self._item('get', word_of(key))
+        return item if isinstance(item, bytes) else self._of_number(item)
 
     def _indices(self, key):
         if key and all(isinstance(part, slice) for part in key):
             self._alive()
             raise NotImplementedError('multi-dimensional slicing is not implemented')
+        if len(key) > 64:
+            raise TypeError(f'cannot index {self.ndim}-dimension view with {len(key)}-element tuple')
         return [word_of(part) for part in key]
 
-    def _item(self, name, *arguments):
-        number = Number()
-        status, content = self._world.ask_for_item(name, self._object, *arguments, ctypes.byref(number))
-        if status:
-            self._refuse(name, status)
-        if content is not None:
-            return content
-        return self._of_number(number.value())
+    def _is_plain(self):
+        """Whether items are the numbers that the library has."""
+        return self._code not in ('?', 'c') and not self._has_floats()
 
     def _of_number(self, number):
         """An item by its number."""
@@ -646,43 +566,41 @@ class MemoryView(_Object, Uncopied):
             if _is_of_bytes(view):
                 return self._compares_with_bytes(operator, view.tobytes())
             world = World()
-            ours, others = _copied(world, self)[-1], _copied(world, view)[-1]
+            _, ours = _copied(world, self)
+            _, others = _copied(world, view)
         except ValueError:  # one view was released, or the library has no such items; then each view is equal only to itself
             return (self is other) == (operator == '==')
-        return _truth(world, 'compare_with', ours, _OPERATORS[operator], others)
+        return ours._call_compare_with(_OPERATORS[operator], others)
 
-    def _assign(self, words, value):
+    def _assign(self, key, value):
         """Assigns an object of another world, or one of Python's, to a slice."""
         if self.readonly:
             raise TypeError('cannot modify read-only memory')
         view = _lent_view(value)
         if _is_of_bytes(view):
-            content = view.tobytes()
-            self._call('set_slice', words, content, len(content))
+            self._call_set_slice(key, view.tobytes())
             return
         if self.ndim == 1 and view.format != self.format:
             raise ValueError('memoryview assignment: lvalue and rvalue have different structures')
-        copy, *views = _copied(self._world, view)
+        exporter, made = _copied(self._world, view)
         try:
-            self._call('set_slice_of', words, views[-1])
+            self._call_set_slice_of(key, made)
         finally:
-            for made in views:
-                self._world.ask('release', made)
-            self._world.ask('take', copy, None, 0, ctypes.byref(ctypes.c_size_t()))
+            made._end()
+            exporter._drop()
 
-    def __setitem__(self, key, value):
+    def _set_item(self, key, value):
+        """Writes at a key, unless `_native` did."""
         if isinstance(key, slice):
-            words = ctypes.byref(Slice.of(key))
             if isinstance(value, _Object) and value._world is self._world and getattr(value, '_shown', None) == self._shown:
-                self._call('set_slice_of', words, value._object)
+                self._call_set_slice_of(key, value)
             else:
-                self._assign(words, value)
+                self._assign(key, value)
             return
         if isinstance(key, tuple):
-            indices = self._indices(key)
-            arguments = 'set_at', (ctypes.c_int64 * len(indices))(*indices), len(indices)
+            write, place = self._call_set_at, self._indices(key)
         elif hasattr(key, '__index__'):
-            arguments = 'set', word_of(key)
+            write, place = self._call_set, word_of(key)
         else:
             self._alive()
             raise TypeError('memoryview: invalid slice key')
@@ -703,20 +621,16 @@ class MemoryView(_Object, Uncopied):
                 self[key]
             raise TypeError(f'memoryview: invalid type for format {self.format!r}')
         number = index_of(value)
-        name, *rest = arguments
-        wide = abs(number) >= 1 << 64
-        if wide and self.readonly:
-            raise TypeError('cannot modify read-only memory')
-        status = Status.TYPE_ERROR if wide else self._world.ask(name, self._object, *rest, Number.of(number))
-        if status == Status.OK:
-            return
-        if status == Status.TYPE_ERROR and not self.readonly:
+        try:
+            write(place, number)
+        except (OverflowError, TypeError):
+            if self.readonly:
+                raise TypeError('cannot modify read-only memory') from None
             self[key]  # a key is checked before a value
             # the kind was right, so the number doesn't fit, which is ValueError in Python
-            raise ValueError(f'memoryview: invalid value for format {self.format!r}')
-        self._refuse(name, status)
+            raise ValueError(f'memoryview: invalid value for format {self.format!r}') from None
 
-    def __delitem__(self, key):
+    def _delete_item(self, key):
         self._alive()
         raise TypeError('cannot delete memory')
 
@@ -753,7 +667,7 @@ class MemoryView(_Object, Uncopied):
         if self._code == 'c':
             items = [bytes((byte,)) for byte in self.tobytes()]
         else:
-            items = self._numbers('items')
+            items = self._call_items()
             if self._code == '?' or self._has_floats():
                 items = [self._of_number(item) for item in items]
         for width in reversed(shape[1:]):
@@ -764,19 +678,18 @@ class MemoryView(_Object, Uncopied):
         if not isinstance(format, str):
             raise TypeError(f"cast() argument 'format' must be str, not {type(format).__name__}")
         if shape is None:
-            return self._cast(format, None, 0)
+            return self._cast(format, None)
         if not isinstance(shape, (list, tuple)) or not all(isinstance(size, int) for size in shape):
             raise TypeError('shape must be a list or a tuple of integers')
-        sizes = [word_of(size, OverflowError) for size in shape]
-        return self._cast(format, (ctypes.c_int64 * max(len(sizes), 1))(*sizes), len(sizes))
+        return self._cast(format, [word_of(size, OverflowError) for size in shape])
 
-    def _cast(self, format, *sizes):
-        made = self._made(self._one('cast', carried(format).encode('ascii'), *sizes))
+    def _cast(self, format, sizes):
+        made = self._made(self._call_cast(carried(format).encode('ascii'), sizes))
         made._shown = format if format.lstrip('@') in BITS else None
         return made
 
     def toreadonly(self):
-        return self._made(self._one('to_readonly'))
+        return self._made(self._call_to_readonly())
 
     hex = _hex
 
@@ -795,7 +708,7 @@ class MemoryView(_Object, Uncopied):
         return hash(self.tobytes())
 
     def _property(self, name):
-        return self._number('property_number', _NAMES[name])
+        return self._call_property_number(_NAMES[name])
 
     nbytes = property(lambda self: self._property('nbytes'))
     itemsize = property(lambda self: self._property('itemsize'))
@@ -804,12 +717,12 @@ class MemoryView(_Object, Uncopied):
     contiguous = property(lambda self: bool(self._property('contiguous')))
     c_contiguous = property(lambda self: bool(self._property('c_contiguous')))
     f_contiguous = property(lambda self: bool(self._property('f_contiguous')))
-    shape = property(lambda self: tuple(self._numbers('property_numbers', _NAMES['shape'])))
-    strides = property(lambda self: tuple(self._numbers('property_numbers', _NAMES['strides'])))
+    shape = property(lambda self: tuple(self._call_property_numbers(_NAMES['shape'])))
+    strides = property(lambda self: tuple(self._call_property_numbers(_NAMES['strides'])))
     suboffsets = property(lambda self: self._alive() or ())
     obj = property(lambda self: self._alive() or self._source)
 
     @property
     def format(self):
-        told = self._text('property_text', _NAMES['format']).decode()
+        told = self._call_property_text(_NAMES['format']).decode()
         return self._shown or told
