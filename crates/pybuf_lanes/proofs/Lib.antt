@@ -4,3 +4,4 @@ mod Counts
 mod Runs
 mod Blocks
 mod Steps
+mod Lowest
