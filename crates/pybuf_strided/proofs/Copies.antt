@@ -113,17 +113,19 @@ rising_moved bytes source to from step (suc n) all inside =
     ∙ piece_after front (b ∷ []) bytes (to + n) long
     ∙ ap₂ (λ (xs : List ℕ) (k : ℕ). xs ++ drop k bytes) (append_assoc (take to bytes) (every step n (drop from source)) (b ∷ [])) next
 
--- every second byte, written over so many bytes
-pub seconds_moved : (bytes source written : List ℕ) (to from count many room : ℕ) → 0 < count → to + count ≤ length bytes → from + 2 * count < length source + 2 → many ≡ count → room ≡ count
-    → written ≡ every 2 room (take (length source - from) (drop from source)) → put_mid to many bytes written ≡ moved_at bytes (place_of false to 1) source (place_of false from 2) 1 count
-seconds_moved bytes source written to from count many room some inside source_inside all as_many is =
-    let lie : Lie source (place_of false from 2) 1 count = λ one k less. omega (arith, source_inside, less) in
+-- every so manyth byte, written over so many bytes
+pub apart_moved : (step : ℕ) (bytes source written : List ℕ) (to from count : ℕ) → Lie source (place_of false from step) 1 count → to + count ≤ length bytes
+    → written ≡ every step (length (take (to + count - to) (drop to bytes))) (take (length source - from) (drop from source))
+    → put_mid to (to + count - to) bytes written ≡ moved_at bytes (place_of false to 1) source (place_of false from step) 1 count
+apart_moved step bytes source written to from count lie inside is =
     let rest : List ℕ = drop from source in
-    let gathered : written ≡ every 2 count rest = is ∙ ap₂ (λ (n : ℕ) (xs : List ℕ). every 2 n xs) as_many (take_rest source from) in
-    ap₂ (λ (k : ℕ) (ys : List ℕ). put_mid to k bytes ys) all gathered
-    ∙ ap (λ (xs : List ℕ). take to bytes ++ (every 2 count rest ++ xs)) (drop-drop count to bytes)
-    ∙ sym (append_assoc (take to bytes) (every 2 count rest) (drop (to + count) bytes))
-    ∙ sym (rising_moved bytes source to from 2 count lie inside)
+    let many : to + count - to ≡ count = omega arith in
+    let room : length (take (to + count - to) (drop to bytes)) ≡ count = length-take-le (to + count - to) (drop to bytes) (omega (arith, length-drop to bytes, inside)) ∙ many in
+    let gathered : written ≡ every step count rest = is ∙ ap₂ (λ (n : ℕ) (xs : List ℕ). every step n xs) room (take_rest source from) in
+    ap₂ (λ (k : ℕ) (ys : List ℕ). put_mid to k bytes ys) many gathered
+    ∙ ap (λ (xs : List ℕ). take to bytes ++ (every step count rest ++ xs)) (drop-drop count to bytes)
+    ∙ sym (append_assoc (take to bytes) (every step count rest) (drop (to + count) bytes))
+    ∙ sym (rising_moved bytes source to from step count lie inside)
 
 -- where bytes lie that are copied so
 pub ones_inside : (start step count size room : ℕ) → AreInside false start step count size room → 0 < count → size ≡ 1 → step ≡ 1 → start + count ≤ room
@@ -132,8 +134,13 @@ ones_inside start step count size room all some one by =
     let times : (count - 1) * step ≡ count - 1 = ap (λ (k : ℕ). (count - 1) * k) by ∙ omega arith in
     omega (arith, last, times, one, some)
 
-pub seconds_inside : (start step count size room : ℕ) → AreInside false start step count size room → 0 < count → size ≡ 1 → step ≡ 2 → start + 2 * count < room + 2
-seconds_inside start step count size room all some one by =
-    let last : start + (count - 1) * step + size ≤ room = all.high (omega (arith, one)) (count - 1) (omega (arith, some)) in
-    let times : (count - 1) * step ≡ 2 * count - 2 = ap (λ (k : ℕ). (count - 1) * k) by ∙ omega arith in
-    omega (arith, last, times, one, some)
+-- so far a number of steps reaches, as the sum of those before the last, and the last
+abbrev pub InSteps : ℕ → ℕ → Type 0
+InSteps step count = (count - 1) * step + step ≡ step * count
+
+pub apart_inside : (by start step count room : ℕ) → AreInside false start step count 1 room → 0 < count → step ≡ by → InSteps by count → start + by * count < room + by
+apart_inside by start step count room all some is sum =
+    let last : start + (count - 1) * step + 1 ≤ room = all.high (omega arith) (count - 1) (omega (arith, some)) in
+    let times : (count - 1) * step ≡ (count - 1) * by = ap (λ (k : ℕ). (count - 1) * k) is in
+    let whole : (count - 1) * by + by ≡ by * count = sum in
+    omega (arith, last, times, whole)

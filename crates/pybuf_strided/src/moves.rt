@@ -2,7 +2,10 @@
 ghost use Rattle.std.specs.Prelude.{◌≡◌, ◌+◌, ◌*◌, ◌<◌, ◌≤◌, ◌^◌, true, false, length, take, drop};
 ghost use Rattle.pybuf_strided.specs.Apart.{place_of, AreInside, with_piece, moved_at};
 
-use pybuf_lanes::gather_halves;
+use pybuf_lanes::{gather_halves, gather_quarters, gather_thirds};
+
+/// How many bytes pay for the call that copies by lanes.
+const LANES_PAY: usize = 32;
 
 /// Where items lie: the place of the first, and how far each is from the one before it, above it or
 /// below.
@@ -207,6 +210,41 @@ fn copy_seconds(bytes: &mut [u8], to: usize, source: &[u8], from: usize, count: 
     gather_halves(&source[from..], &mut bytes[to..to + count]);
 }
 
+/// Copies every third byte to where they lie one after the other, by lanes.
+fn copy_thirds(bytes: &mut [u8], to: usize, source: &[u8], from: usize, count: usize)
+    requires some { 0 < count }
+    requires inside { to + count ≤ length bytes.old }
+    requires source_inside { from + 3 * count < length source.now + 3 }
+    ensures { bytes.new ≡ moved_at bytes.old (place_of false to 1) source.now (place_of false from 3) 1 count }
+{
+    gather_thirds(&source[from..], &mut bytes[to..to + count]);
+}
+
+/// Copies every fourth byte to where they lie one after the other, by lanes.
+fn copy_quarters(bytes: &mut [u8], to: usize, source: &[u8], from: usize, count: usize)
+    requires some { 0 < count }
+    requires inside { to + count ≤ length bytes.old }
+    requires source_inside { from + 4 * count < length source.now + 4 }
+    ensures { bytes.new ≡ moved_at bytes.old (place_of false to 1) source.now (place_of false from 4) 1 count }
+{
+    gather_quarters(&source[from..], &mut bytes[to..to + count]);
+}
+
+/// Copies bytes upwards to where they lie one after the other: by lanes, if there are lanes for their step.
+fn gather_rising(bytes: &mut [u8], to: usize, source: &[u8], from: Track, count: usize)
+    requires some { 0 < count }
+    requires inside { to + count ≤ length bytes.old }
+    requires source_inside { AreInside false from.start from.step count 1 (length source.now) }
+    ensures { bytes.new ≡ moved_at bytes.old (place_of false to 1) source.now (place_of false from.start from.step) 1 count }
+{
+    match from.step {
+        2 => copy_seconds(bytes, to, source, from.start, count),
+        3 => copy_thirds(bytes, to, source, from.start, count),
+        4 => copy_quarters(bytes, to, source, from.start, count),
+        _ => copy_bytes::<false, false>(bytes, to, 1, source, from.start, from.step, count),
+    }
+}
+
 /// Copies items upwards from where they lie upwards.
 fn copy_rising(bytes: &mut [u8], to: Track, source: &[u8], from: Track, size: usize, count: usize)
     requires some_size { 0 < size }
@@ -214,8 +252,8 @@ fn copy_rising(bytes: &mut [u8], to: Track, source: &[u8], from: Track, size: us
     requires source_inside { AreInside false from.start from.step count size (length source.now) }
     ensures { bytes.new ≡ moved_at bytes.old (place_of false to.start to.step) source.now (place_of false from.start from.step) size count }
 {
-    if size == 1 && to.step == 1 && from.step == 2 && count > 0 {
-        copy_seconds(bytes, to.start, source, from.start, count);
+    if size == 1 && to.step == 1 && count >= LANES_PAY {
+        gather_rising(bytes, to.start, source, from, count);
     } else {
         copy_by_size::<false, false>(bytes, to, source, from, size, count);
     }

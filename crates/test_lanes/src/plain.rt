@@ -76,16 +76,17 @@ pub fn write_digits(bytes: &[u8], room: &mut [u8]) {
     }
 }
 
-/// Writes every second byte as far as the room goes.
-pub fn gather_halves(bytes: &[u8], room: &mut [u8]) {
+/// Writes every so manyth byte as far as the room goes.
+pub fn gather(step: usize, bytes: &[u8], room: &mut [u8]) {
     let mut taken = room.iter_mut();
-    let mut is_wanted = true;
+    let mut left: usize = 0;
     for byte in bytes {
-        if is_wanted {
+        if left == 0 {
             if let Some(one) = taken.next() {
                 *one = *byte;
             }
+            left = step;
         }
-        is_wanted = !is_wanted;
+        left = left.saturating_sub(1);
     }
 }

@@ -1,0 +1,7 @@
+use Rattle.std.proofs.Common.{arith}
+use Rattle.pybuf_strided.proofs.Copies.{apart_moved}
+use Rattle.pybuf_strided.proofs.moves.copy_quarters.Goals as goal
+
+pub returns : goal.returns
+returns c =
+    apart_moved 4 c.args.bytes.now c.args.source.now c.gather_quarters.new.room c.args.to c.args.from c.args.count (λ one k less. omega (arith, c.requires.source_inside, less)) c.requires.inside c.gather_quarters.ensures
