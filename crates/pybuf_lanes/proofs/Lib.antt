@@ -5,3 +5,4 @@ mod Runs
 mod Blocks
 mod Steps
 mod Lowest
+mod Turned

@@ -1,5 +1,6 @@
 //! Bytes that lie apart, copied to where they lie one after the other.
-ghost use Rattle.std.specs.Prelude.{◌≡◌, ◌+◌, ◌*◌, ◌<◌, ◌≤◌, length, drop};
+ghost use Rattle.std.specs.Prelude.{◌≡◌, ◌+◌, ◌*◌, ◌<◌, ◌≤◌, length, drop, reverse};
+ghost use Rattle.std.specs.Simd.Lanes.{chunk};
 ghost use Rattle.pybuf_lanes.specs.Gathers as spec;
 
 use std::simd::prelude::*;
@@ -99,6 +100,34 @@ pub fn gather_quarters(source: &[u8], room: &mut [u8])
     }
     while at < len {
         room[at] = source[4 * at];
+        at += 1;
+    }
+}
+
+/// Sixteen bytes from a place on, the last first.
+#[inline(always)]
+fn turned_at(source: &[u8], at: usize) -> u8x16
+    requires { at + 16 ≤ length source.now }
+    ensures { result ≡ reverse (chunk at 16 source.now) }
+{
+    u8x16::from_slice(&source[at..]).reverse()
+}
+
+/// Fills a room with the bytes of a source of the same length, the last first. Takes no memory.
+///
+/// Example: of `b"abc"` it fills a room of 3 bytes with `b"cba"`.
+pub fn gather_reversed(source: &[u8], room: &mut [u8])
+    requires { length room.old ≡ length source.now }
+    ensures { room.new ≡ reverse source.now }
+{
+    let len = room.len();
+    let mut at = 0;
+    while len - at >= 16 {
+        turned_at(source, len - at - 16).copy_to_slice(&mut room[at..]);
+        at += 16;
+    }
+    while at < len {
+        room[at] = source[len - at - 1];
         at += 1;
     }
 }

@@ -13,5 +13,5 @@ mod pairs;
 pub use blanks::{leading_blanks, trailing_blanks};
 pub use counting::count_byte;
 pub use digits::write_digits;
-pub use gathers::{gather_halves, gather_quarters, gather_thirds};
+pub use gathers::{gather_halves, gather_quarters, gather_reversed, gather_thirds};
 pub use pairs::read_digits;
