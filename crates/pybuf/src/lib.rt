@@ -188,7 +188,7 @@ pub use pybuf_share::legal_parts_are_of_one_thread;
 pub use pybuf_share::parts_make_one_history;
 pub use pybuf_share::receipts_are_the_entries;
 pub use pybuf_share::run_sessions;
-pub use pybuf_slice::FrontBytes;
+pub use pybuf_front::FrontBytes;
 pub use pybuf_slice::SequenceExt;
 pub use pybuf_slice::SequenceMutExt;
 pub use pybuf_slice::SliceableSequenceMutOp;

@@ -4,7 +4,7 @@ ghost use Rattle.std.specs.Prelude.{◌≡◌, ◌≤◌, ◌+◌, ◌++◌, [],
 ghost use Rattle.pybuf_value.specs.Halting.{AnsweredAtOnce};
 ghost use Rattle.pybuf_command.specs.Kinds.{holds_readonly};
 ghost use Rattle.pybuf_slice.specs.Edits.{replaced_range};
-ghost use Rattle.pybuf_slice.specs.FrontContent.{IsSpare};
+ghost use Rattle.pybuf_front.specs.FrontContent.{IsSpare};
 ghost use Rattle.pybuf_state.specs.Answers.{IsWhole};
 ghost use Rattle.pybuf_state.specs.Resizing.{resizable};
 ghost use Rattle.pybuf_exporter.specs.Lengths as spec;
