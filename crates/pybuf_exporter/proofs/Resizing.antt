@@ -1,6 +1,7 @@
 -- An exporter that gets another number of bytes stays whole.
-use Rattle.std.proofs.Common.{◌≡◌, ℕ, List, Bool, true, false, sym, ap, subst, refl, ◌∙◌}
+use Rattle.std.proofs.Common.{◌≡◌, ℕ, List, [], Bool, true, false, sym, ap, subst, refl, ◌∙◌}
 use Rattle.std.specs.Prelude.{Result, Ok, Err}
+use Rattle.std.specs.Global.{Vec}
 use Rattle.pybuf_value.specs.declared.faults.Fault.{Fault}
 use Rattle.pybuf_value.specs.declared.faults.Fault.TheVariants as fault
 use Rattle.pybuf_value.specs.declared.halt.Halt.{Halt}
@@ -14,7 +15,7 @@ use Rattle.pybuf_state.specs.Resizing.{has_exports, resizable}
 use Rattle.pybuf_state.specs.Laws.{ResizingKeeps}
 use Rattle.pybuf_state.specs.Answers.{exporter_of, IsWhole}
 use Rattle.pybuf_exporter.specs.Stored.{StoredExporter, stored_of}
-use Rattle.pybuf_exporter.specs.Lengths.{TakesBytes, TakesBytesAtOnce}
+use Rattle.pybuf_exporter.specs.Lengths.{TakesBytes, TakesBytesAtOnce, TakesAll}
 
 free_where : (b : Bool) (f : Fault) → unless b f ≡ Ok true → b ≡ false
 free_where true f is = absurd (cc)
@@ -42,3 +43,15 @@ whole_after keeps old new bytes (Err halt.NoMemory) writable whole count is = as
 pub whole_at_once : ResizingKeeps → (old new : Parts) (bytes : List ℕ) (r : Result (Unit {0}) Fault) → holds_readonly old.kind ≡ false → IsWhole old → new.exports ≡ old.exports → TakesBytesAtOnce (stored_of old) bytes r (stored_of new) → IsWhole new
 whole_at_once keeps old new bytes (Ok _) writable whole count is = still_whole keeps old new bytes writable whole count is.0 is.1
 whole_at_once keeps old new bytes (Err f) writable whole count is = as_whole old new whole count is.1
+
+-- parts whose bytes were handed over are whole
+pub whole_taken : ResizingKeeps → (old new : Parts) (r : Result (Vec ℕ) Fault) → holds_readonly old.kind ≡ false → IsWhole old → new.exports ≡ old.exports → TakesAll (stored_of old) r (stored_of new) → IsWhole new
+whole_taken keeps old new (Ok bytes) writable whole count is = still_whole keeps old new [] writable whole count is.0 is.2
+whole_taken keeps old new (Err f) writable whole count is = as_whole old new whole count is.1
+
+-- and so are those that keep their exporter, whatever their room
+pub whole_kept : (old new : Parts) → IsWhole old → new.exports ≡ old.exports → exporter_of new ≡ exporter_of old → IsWhole new
+whole_kept old new whole count same = record {
+  counted = count ∙ whole.counted ∙ sym (ap exports_of same);
+  sound = subst IsSoundExporter (sym same) whole.sound;
+}
