@@ -133,6 +133,15 @@ fn take_by<L: Ledger>(parts: &mut Parts, blank: Blank) -> Result<Vec<u8>, Fault>
     take_counted(parts, &mut moved)
 }
 
+fn reserve_in(parts: &mut Parts, additional: usize) -> Result<(), Halt>
+    requires { IsWhole parts.old }
+    ensures answer { spec.ReservesIn parts.old additional result parts.new }
+    ensures exports { parts.new.exports ≡ parts.old.exports }
+    ensures same { exporter_of parts.new ≡ exporter_of parts.old }
+{
+    parts.reserve(additional)
+}
+
 fn shrink_by<L: Ledger>(parts: &mut Parts, blank: Blank) -> Result<(), Fault>
     requires whole { IsWhole parts.old }
     requires name { blank.name ≡ L.name }
@@ -282,7 +291,7 @@ impl ExporterState {
     pub fn reserve(&mut self, additional: usize) -> Result<(), Halt>
         ensures { spec.Reserves self.old additional result self.new }
     {
-        self.parts.reserve(additional)
+        reserve_in(&mut self.parts, additional)
     }
 
     /// Gives back the memory that the bytes don't need, as far as the allocator takes it, and the room before them.
