@@ -6,7 +6,8 @@
 
 The calls are drawn from a fixed seed, and carried out on Python's own `bytearray`. Python has no call that takes bytes away
 and gives them, so a slice and `del` stand for it. Whether the length may change while a view is unreleased is asked of Python:
-a byte is added and taken away.
+a byte is added and taken away. That is asked too where memory is taken ahead, or given back, for which Python has no call. Its
+`bytearray` refuses a length past `sys.maxsize` with `OverflowError`.
 """
 import pathlib
 import random
@@ -18,8 +19,10 @@ import case_files
 
 CRATE = pathlib.Path(__file__).resolve().parent.parent / "crates/golden_queues"
 SEED, CALLS, PERIOD = 20261202, 1500, 64
+# The greatest number of bytes that can be asked for.
+HUGE = 2 * sys.maxsize + 1
 # The calls that are done while a view is unreleased, by the number behind `view`.
-WITH_VIEW = ["take", "read", "line", "consume", "drain", "write", "push", "peek"]
+WITH_VIEW = ["take", "read", "line", "consume", "drain", "write", "push", "all", "front", "reserve", "huge", "shrink", "peek"]
 
 
 class Queue:
@@ -61,6 +64,17 @@ class Queue:
             return bytes(self.bytes[:count]) if count <= len(self.bytes) else "none"
         if word == "read":
             return self.taken(count)
+        if word == "all":
+            return self.taken(len(self.bytes))
+        if word == "front":
+            for byte in reversed(self.pattern(count)):
+                self.bytes.insert(0, byte)
+            return "done"
+        if word in ("reserve", "huge", "shrink"):
+            self.may_resize()
+            if word == "huge":
+                bytearray(len(self.bytes) + HUGE - count)
+            return "done"
         if word == "line":
             return self.taken(self.bytes.find(b"\n") + 1 or len(self.bytes))
         if word == "drain":
@@ -80,7 +94,7 @@ class Queue:
                     given = self.given(WITH_VIEW[count], 1)
             else:
                 given = self.given(word, count)
-        except (IndexError, BufferError) as error:
+        except (IndexError, BufferError, OverflowError) as error:
             given = type(error).__name__
         if isinstance(given, bytes):
             given = "".join(["[", *(f" {byte}" for byte in given), " ]"])
@@ -91,13 +105,15 @@ def drawn():
     """The calls: the queue grows to some hundred bytes, and ends empty."""
     draw = random.Random(SEED)
     for _ in range(CALLS):
-        word = draw.choice("push extend extend write take take drain read peek line consume view".split())
+        word = draw.choice("push extend extend write take take drain read peek line consume view front front all reserve huge shrink".split())
         if word == "view":
             yield word, draw.randrange(len(WITH_VIEW))
         elif word == "push":
             yield word, draw.randrange(256)
         elif word == "line":
             yield word, 0
+        elif word == "front":
+            yield word, draw.choice([0, 1, 2, 15, 16, 17])
         else:
             yield word, draw.choice([0, 1, 2, 7, 15, 16, 17, draw.randint(0, 40), draw.randint(0, 150)])
     for _ in range(40):

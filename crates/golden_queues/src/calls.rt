@@ -45,6 +45,7 @@ fn push_fault(out: &mut Vec<u8>, fault: Fault) -> Made<()> {
     match fault {
         Fault::Index => out.extend_from_slice(b"IndexError")?,
         Fault::Buffer => out.extend_from_slice(b"BufferError")?,
+        Fault::Overflow => out.extend_from_slice(b"OverflowError")?,
         _ => out.extend_from_slice(b"otherwise")?,
     }
     Ok(())
@@ -73,6 +74,21 @@ fn push_taken(alloc: Global, out: &mut Vec<u8>, queue: &mut PyByteArray, count: 
         Ok(bytes) => push_bytes(out, bytes.as_slice()),
         Err(halt) => push_done(out, Err(halt)),
     }
+}
+
+fn push_all_taken(out: &mut Vec<u8>, queue: &mut PyByteArray) -> Made<()> {
+    match queue.take() {
+        Ok(bytes) => push_bytes(out, bytes.as_slice()),
+        Err(halt) => push_done(out, Err(halt)),
+    }
+}
+
+/// Puts so many bytes before all others, each as a call of its own, the last of the pattern first.
+fn put_in_front(queue: &mut PyByteArray, bytes: &[u8]) -> Result<(), Halt> {
+    for byte in bytes.iter().rev() {
+        queue.insert_at(0, *byte)?;
+    }
+    Ok(())
 }
 
 fn push_peeked(out: &mut Vec<u8>, queue: &PyByteArray, count: usize) -> Made<()> {
@@ -140,6 +156,14 @@ fn push_given(
         }
         b"take" => push_taken(alloc, out, queue, count),
         b"drain" => push_done(out, queue.drain_front(count)),
+        b"all" => push_all_taken(out, queue),
+        b"front" => {
+            let bytes = pattern.bytes(alloc, count)?;
+            push_done(out, put_in_front(queue, bytes.as_slice()))
+        }
+        b"reserve" => push_done(out, queue.reserve(count)),
+        b"huge" => push_done(out, queue.reserve(usize::MAX - count)),
+        b"shrink" => push_done(out, queue.shrink_to_fit()),
         b"read" => push_read(alloc, out, queue, count),
         b"peek" => push_peeked(out, queue, count),
         b"line" => push_line(alloc, out, queue),
@@ -167,6 +191,11 @@ fn push_refused(
         4 => b"drain".as_slice(),
         5 => b"write".as_slice(),
         6 => b"push".as_slice(),
+        7 => b"all".as_slice(),
+        8 => b"front".as_slice(),
+        9 => b"reserve".as_slice(),
+        10 => b"huge".as_slice(),
+        11 => b"shrink".as_slice(),
         _ => b"peek".as_slice(),
     };
     match PyMemoryView::of_all(queue.state_mut()) {

@@ -3,8 +3,9 @@
 //! `bytearray`.
 //!
 //! A line has a word and a number. `push`, `extend` and `write` add so many bytes, of a pattern that goes on from line to
-//! line. `take`, `drain`, `read` and `consume` take so many away at the front, `line` takes all up to the first line feed,
-//! and `peek` takes none. `view` does the call that its number names while a view is unreleased.
+//! line, and `front` puts them before all others. `take`, `drain`, `read` and `consume` take so many away at the front,
+//! `line` takes all up to the first line feed, `all` takes all, and `peek` takes none. `reserve` takes memory ahead for so
+//! many bytes, `huge` for more than there can be, and `shrink` gives it back. `view` does the call that its number names while a view is unreleased.
 #![tactic(auto)]
 
 mod calls;

@@ -16,7 +16,7 @@ use Rattle.pybuf_state.specs.Answers.{Answers}
 use Rattle.pybuf_verbs_edits.specs.Counting.{taken_places, TakesFirst, grows_at_end}
 use Rattle.pybuf_verbs_edits.specs.Edits.{is_edit, edit_of_own}
 use Rattle.pybuf_exporter.specs.Stored.{StoredExporter}
-use Rattle.pybuf_exporter.specs.Counting.{IsQueueStep, IsQueueRun, QueuesMoveFewBytes}
+use Rattle.pybuf_exporter.specs.Counting.{QueueCall, Command, Append, DropFront, IsQueueStep, IsQueueRun, QueuesMoveFewBytes}
 
 -- ---- commands that are no edits
 
@@ -209,23 +209,25 @@ always_on_err P (Err e) holds = holds
 
 -- The moves so far and the room after a step are together at most the moves and the room before it and what it
 -- took out.
-step_pays : (command : LocalCommand) (cut : ℕ) (old : StoredExporter) (before : ℕ) (new : StoredExporter) (after : ℕ) → IsQueueStep command cut old before new after → after + new.room ≤ before + (old.room + cut)
-step_pays command cut old before new after step =
+step_pays : (call : QueueCall) (cut : ℕ) (old : StoredExporter) (before : ℕ) (new : StoredExporter) (after : ℕ) → IsQueueStep call cut old before new after → after + new.room ≤ before + (old.room + cut)
+step_pays (Append bytes) cut old before new after step = omega (arith, step.0, step.2)
+step_pays (DropFront count) cut old before new after step = omega (arith, step.0, step.2.0, step.2.1)
+step_pays (Command command) cut old before new after step =
     elim step.1 [
       | inl front ↦ omega (arith, step.2.front_counter cut front step.0, step.2.front_room cut front step.0)
       | inr grows ↦ omega (arith, step.2.end_counter grows.0 step.0)
     ]
 
-run_pays : (commands : List LocalCommand) (cut : ℕ) (old : StoredExporter) (before : ℕ) (new : StoredExporter) (after : ℕ) → IsQueueRun commands cut old before new after → after + new.room ≤ before + (old.room + cut)
+run_pays : (calls : List QueueCall) (cut : ℕ) (old : StoredExporter) (before : ℕ) (new : StoredExporter) (after : ℕ) → IsQueueRun calls cut old before new after → after + new.room ≤ before + (old.room + cut)
 run_pays [] cut old before new after run =
     let rooms : new.room ≡ old.room = ap (λ (c : StoredExporter). c.room) run.1 in
     omega (arith, rooms, run.2)
-run_pays (command ∷ commands) cut old before new after run =
+run_pays (call ∷ calls) cut old before new after run =
     let first = run.0 in
     let others = run.1 in
     let between = run.2 in
     let count = run.3 in
-    omega (arith, run.4, step_pays command first old before between count run.5, run_pays commands others between count new after run.6)
+    omega (arith, run.4, step_pays call first old before between count run.5, run_pays calls others between count new after run.6)
 
 pub queues_move_few : QueuesMoveFewBytes
-queues_move_few commands cut old before new after run = omega (arith, run_pays commands cut old before new after run)
+queues_move_few calls cut old before new after run = omega (arith, run_pays calls cut old before new after run)

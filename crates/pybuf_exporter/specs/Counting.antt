@@ -1,5 +1,5 @@
 -- How many bytes a command moves, and how the room before the bytes changes.
-use Rattle.std.specs.Prelude.{◌≡◌, ◌⊎◌, ℕ, ◌+◌, ◌<◌, ◌≤◌, Bool, true, false, List, [], ◌∷◌, length, Option, Result, Err, IsOk, IsErr}
+use Rattle.std.specs.Prelude.{◌≡◌, ◌⊎◌, ℕ, ◌+◌, ◌<◌, ◌≤◌, Bool, true, false, List, [], ◌∷◌, ◌++◌, drop, length, Option, Result, Err, IsOk, IsErr}
 use Rattle.pybuf_value.specs.declared.faults.Fault.{Fault}
 use Rattle.pybuf_value.specs.declared.faults.Fault.TheVariants as fault
 use Rattle.pybuf_value.specs.declared.halt.Halt.{Halt}
@@ -87,26 +87,46 @@ pub record Moves (old : StoredExporter) (command : LocalCommand) (before : ℕ) 
 
 -- ---- queues
 
--- A command of a queue that isn't refused. It takes out just the first `cut` bytes, or it adds bytes at the
--- end, and it moves no more than it may.
-abbrev pub IsQueueStep : LocalCommand → ℕ → StoredExporter → ℕ → StoredExporter → ℕ → Type 0
-IsQueueStep command cut old before new after =
+-- What it may cost to add bytes at the end: the bytes that are moved and the room after are together at most the room
+-- before.
+abbrev pub PaysAtEnd : StoredExporter → ℕ → StoredExporter → ℕ → Type 0
+PaysAtEnd old before new after = after + new.room ≤ before + old.room
+
+-- What it may cost to take out the first bytes, as many as `cut` says: none is moved, and they are left as room.
+abbrev pub LeavesRoom : StoredExporter → ℕ → ℕ → StoredExporter → ℕ → Type 0
+LeavesRoom old cut before new after = (new.room ≡ old.room + cut) × (after ≡ before)
+
+-- A call on a queue is a command, or a call by plain arguments that adds bytes at the end or takes out the first.
+pub data QueueCall : Type 0 where
+  Command : (command : LocalCommand) → QueueCall
+  Append : (bytes : List ℕ) → QueueCall
+  DropFront : (count : ℕ) → QueueCall
+
+-- A call on a queue that isn't refused. It takes out just the first `cut` bytes, or it adds bytes at the end, and it
+-- moves no more than it may. A command says so by `Moves`. A call by plain arguments says so by the two clauses that it
+-- owes.
+abbrev pub IsQueueStep : QueueCall → ℕ → StoredExporter → ℕ → StoredExporter → ℕ → Type 0
+IsQueueStep (Command command) cut old before new after =
     IsOk (answer_to old command)
     × (TakesFront old command cut ⊎ (GrowsAtEnd old command × (cut ≡ 0)))
     × Moves old command before new after
+IsQueueStep (Append bytes) cut old before new after =
+    (cut ≡ 0) × (new.exporter ≡ record old.exporter { bytes = old.exporter.bytes ++ bytes }) × PaysAtEnd old before new after
+IsQueueStep (DropFront count) cut old before new after =
+    (cut ≡ count) × (new.exporter ≡ record old.exporter { bytes = drop count old.exporter.bytes }) × LeavesRoom old count before new after
 
--- Such commands one after another. Together they take out `cut` bytes.
-abbrev pub IsQueueRun : List LocalCommand → ℕ → StoredExporter → ℕ → StoredExporter → ℕ → Type 0
+-- Such calls one after another. Together they take out `cut` bytes.
+abbrev pub IsQueueRun : List QueueCall → ℕ → StoredExporter → ℕ → StoredExporter → ℕ → Type 0
 IsQueueRun [] cut old before new after = (cut ≡ 0) × (new ≡ old) × (after ≡ before)
-IsQueueRun (command ∷ commands) cut old before new after =
+IsQueueRun (call ∷ calls) cut old before new after =
     (first : ℕ) × (others : ℕ) × (between : StoredExporter) × (count : ℕ)
     × (cut ≡ first + others)
-    × IsQueueStep command first old before between count
-    × IsQueueRun commands others between count new after
+    × IsQueueStep call first old before between count
+    × IsQueueRun calls others between count new after
 
--- In any run of commands that take bytes out at the front or add them at the end, the counter rises by at most
--- the room at first plus the number of bytes taken out.
+-- In any run of calls that take bytes out at the front or add them at the end, commands and others in any order, the
+-- counter rises by at most the room at first plus the number of bytes taken out.
 abbrev pub QueuesMoveFewBytes : Type 0
 QueuesMoveFewBytes =
-    (commands : List LocalCommand) (cut : ℕ) (old : StoredExporter) (before : ℕ) (new : StoredExporter) (after : ℕ)
-    → IsQueueRun commands cut old before new after → after ≤ before + (old.room + cut)
+    (calls : List QueueCall) (cut : ℕ) (old : StoredExporter) (before : ℕ) (new : StoredExporter) (after : ℕ)
+    → IsQueueRun calls cut old before new after → after ≤ before + (old.room + cut)

@@ -356,8 +356,10 @@ pub(crate) fn next_is_undone()
     ensures none { NoIteratorHasNoNext }
 {}
 
-/// Over any list of commands each of which takes the first bytes out or adds bytes at the end, the counter of moved bytes
-/// rises by at most the first room and the number of bytes that are taken out together.
+/// Over any list of calls each of which takes the first bytes out or adds bytes at the end, commands and calls by plain
+/// arguments in any order, the counter of moved bytes rises by at most the first room and the number of bytes that are
+/// taken out together. A call by plain arguments owes two clauses for it, `PaysAtEnd` and `LeavesRoom`, which
+/// `append_bytes_counted` and `remove_front_counted` have.
 /// Example: from no room, ten commands `pop 0` and any appends between them move at most ten bytes.
 pub fn queues_move_few_bytes()
     ensures { QueuesMoveFewBytes }

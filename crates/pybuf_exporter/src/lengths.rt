@@ -4,9 +4,10 @@ ghost use Rattle.std.specs.Prelude.{◌≡◌, ◌≤◌, ◌+◌, ◌++◌, [],
 ghost use Rattle.pybuf_value.specs.Halting.{AnsweredAtOnce};
 ghost use Rattle.pybuf_command.specs.Kinds.{holds_readonly};
 ghost use Rattle.pybuf_slice.specs.Edits.{replaced_range};
-ghost use Rattle.pybuf_slice.specs.FrontContent.{IsSpare};
-ghost use Rattle.pybuf_state.specs.Answers.{IsWhole};
+ghost use Rattle.pybuf_front.specs.FrontContent.{IsSpare};
+ghost use Rattle.pybuf_state.specs.Answers.{exporter_of, IsWhole};
 ghost use Rattle.pybuf_state.specs.Resizing.{resizable};
+ghost use Rattle.pybuf_exporter.specs.Counting.{PaysAtEnd, LeavesRoom};
 ghost use Rattle.pybuf_exporter.specs.Lengths as spec;
 
 use crate::exporter::ExporterState;
@@ -107,6 +108,55 @@ fn remove_by<L: Ledger>(
     remove_counted(parts, start, end, &mut moved)
 }
 
+/// Hands all bytes over, with a counter of the bytes that move.
+fn take_counted<L: Ledger>(parts: &mut Parts, moved: &mut Steps<L>) -> Result<Vec<u8>, Fault>
+    requires { IsWhole parts.old }
+    ensures answer { spec.TakesAllIn parts.old result parts.new }
+    ensures exports { parts.new.exports ≡ parts.old.exports }
+    ensures still { parts.old.bytes.room ≡ 0 → moved.new ≡ moved.old }
+    ensures few { moved.new ≤ moved.old + length parts.old.bytes.items }
+    ensures err_counter { OnErr result (moved.new ≡ moved.old) }
+{
+    parts.resizable()?;
+    Ok(parts.take_bytes(moved))
+}
+
+fn take_by<L: Ledger>(parts: &mut Parts, blank: Blank) -> Result<Vec<u8>, Fault>
+    requires whole { IsWhole parts.old }
+    requires name { blank.name ≡ L.name }
+    requires parts { blank.parts ≡ L.parts }
+    requires one { blank.parts ≡ 1 }
+    ensures answer { spec.TakesAllIn parts.old result parts.new }
+    ensures exports { parts.new.exports ≡ parts.old.exports }
+{
+    let mut moved = Steps::<L>::new(blank);
+    take_counted(parts, &mut moved)
+}
+
+fn reserve_in(parts: &mut Parts, additional: usize) -> Result<(), Halt>
+    requires { IsWhole parts.old }
+    ensures answer { spec.ReservesIn parts.old additional result parts.new }
+    ensures exports { parts.new.exports ≡ parts.old.exports }
+    ensures same { exporter_of parts.new ≡ exporter_of parts.old }
+{
+    parts.reserve(additional)
+}
+
+fn shrink_by<L: Ledger>(parts: &mut Parts, blank: Blank) -> Result<(), Fault>
+    requires whole { IsWhole parts.old }
+    requires name { blank.name ≡ L.name }
+    requires parts { blank.parts ≡ L.parts }
+    requires one { blank.parts ≡ 1 }
+    ensures answer { spec.ShrinksIn parts.old result parts.new }
+    ensures exports { parts.new.exports ≡ parts.old.exports }
+    ensures same { exporter_of parts.new ≡ exporter_of parts.old }
+{
+    let mut moved = Steps::<L>::new(blank);
+    parts.resizable()?;
+    parts.shrink_to_fit(&mut moved);
+    Ok(())
+}
+
 impl ExporterState {
     /// Adds bytes at the end. Where as much room lies before the bytes as there are bytes, they are first moved to the
     /// start; else none moves.
@@ -135,7 +185,7 @@ impl ExporterState {
     ) -> Result<(), Halt>
         requires { holds_readonly self.old.exporter.kind ≡ false }
         ensures answer { spec.TakesBytes self.old (self.old.exporter.bytes ++ bytes.now) result self.new }
-        ensures counter { OnOk result (moved.new + self.new.room ≤ moved.old + self.old.room) }
+        ensures paid { OnOk result (PaysAtEnd self.old moved.old self.new moved.new) }
         ensures err_counter { OnErr result (moved.new ≡ moved.old) }
     {
         resizing_keeps();
@@ -143,11 +193,11 @@ impl ExporterState {
     }
 
     /// Puts other bytes in place of those from one place up to another, as many as there are. The bytes behind move
-    /// once, where the number of bytes changes.
+    /// once, where the number of bytes changes; none moves where bytes are put at the front and the room there suffices.
     ///
     /// Refused with `BufferError` exactly where a view is unreleased. Nothing is changed then, nor where memory runs out.
     /// Example: in `b"abcdef"` the bytes `b"XY"` in place of those from 1 up to 4 make `b"aXYef"`.
-    pub fn replace_bytes(&mut self, start: usize, end: usize, bytes: &[u8]) -> Result<(), Halt>
+    pub fn replace_range(&mut self, start: usize, end: usize, bytes: &[u8]) -> Result<(), Halt>
         requires writable { holds_readonly self.old.exporter.kind ≡ false }
         requires ordered { start ≤ end }
         requires inside { end ≤ length self.old.exporter.bytes }
@@ -162,7 +212,7 @@ impl ExporterState {
     ///
     /// Refused with `BufferError` exactly where a view is unreleased. Nothing is changed then.
     /// Example: from `b"abcdef"` those from 1 up to 4 leave `b"aef"`.
-    pub fn remove_bytes(&mut self, start: usize, end: usize) -> Result<(), Fault>
+    pub fn remove_range(&mut self, start: usize, end: usize) -> Result<(), Fault>
         requires writable { holds_readonly self.old.exporter.kind ≡ false }
         requires ordered { start ≤ end }
         requires inside { end ≤ length self.old.exporter.bytes }
@@ -185,11 +235,74 @@ impl ExporterState {
         requires writable { holds_readonly self.old.exporter.kind ≡ false }
         requires inside { count ≤ length self.old.exporter.bytes }
         ensures answer { spec.TakesBytesAtOnce self.old (spec.replaced self.old 0 count []) result self.new }
-        ensures room { OnOk result (self.new.room ≡ self.old.room + count) }
+        ensures paid { OnOk result (LeavesRoom self.old count moved.old self.new moved.new) }
         ensures counter { moved.new ≡ moved.old }
     {
         resizing_keeps();
         remove_counted(&mut self.parts, 0, count, moved)
+    }
+
+    /// Hands all bytes over as a vector, and leaves none and no room. No byte is copied where there is no room before
+    /// the bytes; else each moves once, to the start of their block. Takes no memory.
+    ///
+    /// Refused with `BufferError` exactly where a view is unreleased. Nothing is changed then.
+    /// Example: of the exporter of `bytearray(b"abc")` it is the vector of `b"abc"`, and `bytearray(b"")` is left.
+    pub fn take_bytes(&mut self) -> Result<Vec<u8>, Fault>
+        requires { holds_readonly self.old.exporter.kind ≡ false }
+        ensures { spec.TakesAll self.old result self.new }
+    {
+        resizing_keeps();
+        take_by::<Brand>(&mut self.parts, Blank::new(1))
+    }
+
+    /// Hands all bytes over, as `take_bytes` does, with a counter of the bytes that it moves to another place within.
+    ///
+    /// Refused with `BufferError` exactly where a view is unreleased. Nothing is changed then, and nothing is counted.
+    /// Example: of `b"cd"` behind a room of two bytes it moves two bytes, and of `b"cd"` without room none.
+    pub fn take_bytes_counted<L: Ledger>(
+        &mut self,
+        moved: &mut Steps<L>,
+    ) -> Result<Vec<u8>, Fault>
+        requires { holds_readonly self.old.exporter.kind ≡ false }
+        ensures answer { spec.TakesAll self.old result self.new }
+        ensures still { self.old.room ≡ 0 → moved.new ≡ moved.old }
+        ensures few { moved.new ≤ moved.old + length self.old.exporter.bytes }
+        ensures err_counter { OnErr result (moved.new ≡ moved.old) }
+    {
+        resizing_keeps();
+        take_counted(&mut self.parts, moved)
+    }
+
+    /// How many bytes there can be in all before adding some takes memory. It is never below the number of bytes, and
+    /// at most `isize::MAX`. Takes no memory.
+    /// Example: of the exporter of `bytearray(b"abc")` after `reserve(5)` it is 8 or more.
+    pub fn capacity(&self) -> usize
+        ensures { length self.now.exporter.bytes ≤ result }
+    {
+        self.parts.capacity()
+    }
+
+    /// Takes memory ahead, so that so many bytes more can be added without any. Bytes, views and room stay.
+    ///
+    /// Refused with `BufferError` exactly where a view is unreleased, since the bytes may get another place in memory,
+    /// and then with `OverflowError` where with them there were more than `isize::MAX` bytes. Nothing is changed then,
+    /// nor where memory runs out.
+    /// Example: `state.reserve(5)` with one unreleased view is `Err(Halt::Refused(Fault::Buffer))`.
+    pub fn reserve(&mut self, additional: usize) -> Result<(), Halt>
+        ensures { spec.Reserves self.old additional result self.new }
+    {
+        reserve_in(&mut self.parts, additional)
+    }
+
+    /// Gives back the memory that the bytes don't need, as far as the allocator takes it, and the room before them.
+    /// The bytes move once where there was room. Takes no memory.
+    ///
+    /// Refused with `BufferError` exactly where a view is unreleased. Nothing is changed then.
+    /// Example: `b"cd"` behind a room of two bytes is `b"cd"` without room then.
+    pub fn shrink_to_fit(&mut self) -> Result<(), Fault>
+        ensures { spec.Shrinks self.old result self.new }
+    {
+        shrink_by::<Brand>(&mut self.parts, Blank::new(1))
     }
 
     /// Whether the number of bytes may change. Takes no memory.

@@ -17,7 +17,7 @@ use Rattle.pybuf_slice.specs.Edits.{replaced_range}
 use Rattle.pybuf_slice.specs.Reads.{elements_at}
 use Rattle.pybuf_command.specs.Kinds.{of_byte_array}
 use Rattle.pybuf_state.specs.Exporter.{Exporter}
-use Rattle.pybuf_state.specs.Resizing.{resizable}
+use Rattle.pybuf_state.specs.Resizing.{resizable, reservable}
 
 -- ---- answers
 
@@ -33,6 +33,10 @@ SettlesAtOnce wanted old result new = Settled result (λ x. (new, x)) (new ≡ o
 -- the same of a call that gives a vector of bytes
 abbrev pub SettlesBytes : Result (Exporter × List ℕ) Fault → Exporter → Result (Vec ℕ) Halt → Exporter → Type 0
 SettlesBytes wanted old result new = Settles wanted old (result_map_both (λ bytes. bytes.items) (λ halt. halt) result) new
+
+-- the same for one that takes no memory
+abbrev pub SettlesBytesAtOnce : Result (Exporter × List ℕ) Fault → Exporter → Result (Vec ℕ) Halt → Exporter → Type 0
+SettlesBytesAtOnce wanted old result new = SettlesAtOnce wanted old (result_map_both (λ bytes. bytes.items) (λ halt. halt) result) new
 
 -- the same of a call that answers with a fault alone
 abbrev pub SettlesFault : {X : Type 0} → Result (Exporter × X) Fault → Exporter → Result X Fault → Exporter → Type 0
@@ -136,6 +140,20 @@ drained_front e count = resized_to e (drop count e.bytes) tt
 -- no bytes
 abbrev pub emptied : Exporter → Result (Exporter × Unit {0}) Fault
 emptied e = resized_to e [] tt
+
+-- no bytes, and those that there were are the answer
+abbrev pub all_taken : Exporter → Result (Exporter × List ℕ) Fault
+all_taken e = resized_to e [] e.bytes
+
+-- the same bytes, if memory may be taken ahead for so many more
+abbrev pub reserved : Exporter → ℕ → Result (Exporter × Unit {0}) Fault
+reserved e more = of_byte_array e.kind (do
+  _ ← reservable e more
+  Ok (e, tt))
+
+-- the same bytes, if they may get another place in memory
+abbrev pub shrunk : Exporter → Result (Exporter × Unit {0}) Fault
+shrunk e = resized_to e e.bytes tt
 
 -- Another byte replaces the one that a number names. Unreleased views don't stop this.
 abbrev pub put_at : Exporter → ℤ → ℕ → Result (Exporter × Unit {0}) Fault

@@ -1,6 +1,5 @@
 //! `PyByteArray` by plain arguments: each call makes no value, no loan and no reply.
 ghost use Rattle.std.specs.Prelude.{◌≡◌, ◌==◌, ◌<◌, ◌≤◌, [], length, take, slice_set, true, Ok, Err, IfOk, IsSomeAnd, MatchOption, MatchResult};
-ghost use Rattle.std.specs.Borrow.{sem};
 ghost use Rattle.pybuf_value.specs.Halting.{AnsweredAtOnce};
 ghost use Rattle.pybuf_command.specs.declared.kinds.ExporterKind.TheVariants as kinds;
 ghost use Rattle.pybuf_state.specs.Exporter.{new_exporter};
@@ -14,7 +13,6 @@ use pybuf_command::ExporterKind;
 use pybuf_index::{SequenceIndexOp, entry_in};
 use pybuf_value::{Fault, Halt, Made};
 use std::alloc::Global;
-use std::mem;
 
 /// Puts a byte in place of the one that a number names.
 ///
@@ -28,8 +26,6 @@ fn put(bytes: &mut [u8], index: isize, byte: u8) -> Result<(), Fault>
 }
 
 impl PyByteArray {
-    ghost use Rattle.pybuf_object.specs.Lending.{LendsAllIfOk};
-
     /// The `bytearray` without bytes, and no view of it. Takes no memory.
     /// Example: `PyByteArray::new(alloc).as_slice()` is `b""`.
     pub fn new(alloc: Global) -> PyByteArray
@@ -112,21 +108,6 @@ impl PyByteArray {
         slices::bytes_of_slice(alloc, self.exporter.bytes(), start, stop, step)
     }
 
-    /// The bytes, lent to be changed in any way, in number too.
-    ///
-    /// Refused with `UnknownName` where another kind of exporter was put in, and with `BufferError` where a view is
-    /// unreleased.
-    fn resizable(&mut self) -> Result<&mut Vec<u8>, Fault>
-        ensures* writes_back { sem 𝓛 (LendsAllIfOk self.entry result) }
-        ensures value { IfOk result (λ bytes. bytes.now.items ≡ self.old.bytes) }
-        ensures exact { AnsweredAtOnce result (λ _. true) (spec.may_resize self.old) }
-    {
-        match self.exporter.kind() {
-            ExporterKind::ByteArray => self.exporter.resizable(),
-            _ => Err(Fault::UnknownName),
-        }
-    }
-
     /// Whether the number of bytes may change.
     ///
     /// Refused with `UnknownName` where another kind of exporter was put in, and with `BufferError` where a view is
@@ -156,7 +137,7 @@ impl PyByteArray {
         ensures { spec.Settles (spec.put_before self.old place bytes.now) self.old result self.new }
     {
         match self.exporter.kind() {
-            ExporterKind::ByteArray => self.exporter.replace_bytes(place, place, bytes),
+            ExporterKind::ByteArray => self.exporter.replace_range(place, place, bytes),
             _ => Err(Halt::Refused(Fault::UnknownName)),
         }
     }
@@ -168,7 +149,7 @@ impl PyByteArray {
         ensures { spec.SettlesFault (spec.cut_out self.old start end) self.old result self.new }
     {
         match self.exporter.kind() {
-            ExporterKind::ByteArray => self.exporter.remove_bytes(start, end),
+            ExporterKind::ByteArray => self.exporter.remove_range(start, end),
             _ => Err(Fault::UnknownName),
         }
     }
@@ -352,14 +333,66 @@ impl PyByteArray {
         }
     }
 
-    /// The bytes as a vector. No byte is copied, and no memory is taken.
+    /// Takes all bytes out and hands them over as a vector. No byte is copied to other memory, and none moves where none
+    /// was taken from the front before. Takes no memory.
+    ///
+    /// Refused with `BufferError` where a view is unreleased, also where there is no byte. Nothing is changed then.
+    /// Example: of `bytearray(b"abc")` it is a vector of the bytes `b"abc"`, and `bytearray(b"")` is left.
+    pub fn take(&mut self) -> Result<Vec<u8>, Halt>
+        ensures { spec.SettlesBytesAtOnce (spec.all_taken self.old) self.old result self.new }
+    {
+        match self.exporter.kind() {
+            ExporterKind::ByteArray => Ok(self.exporter.take_bytes()?),
+            _ => Err(Halt::Refused(Fault::UnknownName)),
+        }
+    }
+
+    /// How many bytes there can be in all before adding some takes memory. It is never below the number of bytes, and at
+    /// most `isize::MAX`. Takes no memory.
+    /// Example: of `PyByteArray::new(alloc)` after `reserve(100)` it is 100 or more.
+    pub fn capacity(&self) -> usize
+        ensures { length self.now.bytes ≤ result }
+    {
+        self.exporter.capacity()
+    }
+
+    /// Takes memory ahead, so that so many bytes more can be added without any. The bytes stay.
+    ///
+    /// Refused with `BufferError` where a view is unreleased, since the bytes may get another place in memory, and then
+    /// with `OverflowError` where with them there were more than `isize::MAX` bytes. Nothing is changed then, nor where
+    /// memory runs out.
+    /// Example: `array.reserve(usize::MAX)` of `bytearray(b"abc")` is `Err(Halt::Refused(Fault::Overflow))`.
+    pub fn reserve(&mut self, additional: usize) -> Result<(), Halt>
+        ensures { spec.Settles (spec.reserved self.old additional) self.old result self.new }
+    {
+        match self.exporter.kind() {
+            ExporterKind::ByteArray => self.exporter.reserve(additional),
+            _ => Err(Halt::Refused(Fault::UnknownName)),
+        }
+    }
+
+    /// Gives back the memory that the bytes don't need, as far as the allocator takes it. The bytes stay. Takes no
+    /// memory.
+    ///
+    /// Refused with `BufferError` where a view is unreleased, since the bytes may get another place in memory. Nothing is
+    /// changed then.
+    /// Example: after `array.reserve(100)?` and `array.shrink_to_fit()?` `bytearray(b"abc")` is as before.
+    pub fn shrink_to_fit(&mut self) -> Result<(), Halt>
+        ensures { spec.SettlesAtOnce (spec.shrunk self.old) self.old result self.new }
+    {
+        match self.exporter.kind() {
+            ExporterKind::ByteArray => Ok(self.exporter.shrink_to_fit()?),
+            _ => Err(Halt::Refused(Fault::UnknownName)),
+        }
+    }
+
+    /// The bytes as a vector. No byte is copied to other memory, and no memory is taken.
     ///
     /// Refused with `BufferError` where a view is unreleased. The bytearray is let go of then too.
     /// Example: of `bytearray(b"abc")` it is a vector of the bytes `b"abc"`.
-    pub fn into_vec(mut self, alloc: Global) -> Result<Vec<u8>, Halt>
+    pub fn into_vec(mut self) -> Result<Vec<u8>, Halt>
         ensures { MatchResult result (λ bytes. (spec.may_resize self ≡ Ok true) × (bytes.items ≡ self.bytes)) (λ halt. spec.IsRefusal (spec.may_resize self) halt) }
     {
-        let empty = Vec::new(alloc);
-        Ok(mem::replace(self.resizable()?, empty))
+        self.take()
     }
 }

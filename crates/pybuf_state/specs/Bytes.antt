@@ -6,7 +6,7 @@ use Rattle.std.specs.Borrow.{RattleType, u8}
 use Rattle.std.specs.contracts.alloc.Global as global
 use Rattle.std.specs.contracts.vec.Vec as vec
 use Rattle.std.specs.contracts.impls.GlobalAllocator.TheImpl.{ghosts}
-use Rattle.pybuf_slice.specs.FrontContent.{FrontContent}
+use Rattle.pybuf_front.specs.FrontContent.{FrontContent}
 
 -- the bytes of a store, in order, and how many bytes of free room lie before them
 abbrev pub StoreContent : Type 0

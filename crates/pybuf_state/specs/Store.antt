@@ -14,7 +14,7 @@ overwritten_from s place bytes = overwritten s (take place s.items ++ (bytes ++ 
 
 -- the store with the bytes of a vector, and no free room before them
 abbrev pub exchanged : Bytes → StoreContent
-exchanged bytes = record { items = bytes.items; room = 0 }
+exchanged bytes = record { items = bytes.items; room = 0; memory = bytes.cap }
 
 -- after a loan, the store has the bytes that the loan ends with, as many as before
 abbrev pub LendsItems : MutBor StoreContent → MutBor (List ℕ) → Fml

@@ -1,6 +1,6 @@
 //! What is kept of an exporter.
-ghost use Rattle.std.specs.Prelude.{◌≡◌, ◌≤◌, ◌<◌, ◌+◌, [], Ok, length, true, false, IfOk, IsOk, OnOk, OnErr};
-ghost use Rattle.pybuf_value.specs.Halting.{AnsweredAtOnce, GivesLent};
+ghost use Rattle.std.specs.Prelude.{◌≡◌, ◌≤◌, ◌<◌, ◌+◌, [], Ok, length, true, false, Err, IfOk, IsOk, OnOk, OnErr};
+ghost use Rattle.pybuf_value.specs.Halting.{Answered, AnsweredAtOnce, GivesLent};
 
 use crate::iterators::StoredIterator;
 use crate::store::Store;
@@ -34,13 +34,14 @@ impl Parts {
     ghost use Rattle.std.specs.Result.{result_map_both};
     ghost use Rattle.pybuf_command.specs.declared.commands.LocalReply.TheVariants as replies;
     ghost use Rattle.pybuf_value.specs.declared.faults.Fault.TheVariants as faults;
+    ghost use Rattle.pybuf_value.specs.declared.halt.Halt.TheVariants as halts;
     ghost use Rattle.pybuf_value.specs.Refusing.{unless};
-    ghost use Rattle.pybuf_slice.specs.FrontContent.{IsSpare};
+    ghost use Rattle.pybuf_front.specs.FrontContent.{IsSpare, capacity_of};
     ghost use Rattle.pybuf_state.specs.Keeps as keeps;
     ghost use Rattle.pybuf_state.specs.Exporter.{view_at, live_layout, with_view, released_in, exports_of, resized, iterator_at, with_iterator, iterator_put};
     ghost use Rattle.pybuf_state.specs.Answers.{exporter_of, IsWhole, Answers, AnswersIn};
     ghost use Rattle.pybuf_state.specs.Laws.{IsSoundLayout};
-    ghost use Rattle.pybuf_state.specs.Resizing.{has_exports, resizable};
+    ghost use Rattle.pybuf_state.specs.Resizing.{has_exports, resizable, reservable};
 
     /// Whether the exporter is a string of bytes, as `bytes` and bytearrays are. Refused with `UnknownName` exactly
     /// where it is a vector. Takes no memory.
@@ -188,7 +189,7 @@ impl Parts {
 
     /// Puts other bytes in place of those from one place up to another, as many as there are. With `append`
     /// and `replace_bytes` it is the call by which the length of an exporter changes. The bytes behind move
-    /// once, and none where bytes are taken from the front. Where memory runs out, all is as before.
+    /// once; none moves where bytes are taken from the front, or are put there and the room suffices. Where memory runs out, all is as before.
     /// Example: in `b"abcdef"` the bytes `b"XY"` in place of those from 1 up to 4 make `b"aXYef"`.
     pub fn replace_range<L: Ledger>(
         &mut self,
@@ -246,6 +247,67 @@ impl Parts {
         ensures room { self.new.bytes.room ≡ 0 }
     {
         self.bytes = Store::from_vec(bytes);
+    }
+
+    /// Hands all bytes over as a vector, and leaves none and no room. They move once where there is room before them,
+    /// and else not. Takes no memory.
+    /// Example: of `b"abc"` it gives the vector of `b"abc"`, and leaves `b""`.
+    pub fn take_bytes<L: Ledger>(&mut self, moved: &mut Steps<L>) -> Vec<u8>
+        requires free { has_exports (exporter_of self.old) ≡ false }
+        ensures value { result.items ≡ self.old.bytes.items }
+        ensures same { exporter_of self.new ≡ record (exporter_of self.old) { bytes = [] } }
+        ensures exports { self.new.exports ≡ self.old.exports }
+        ensures room { self.new.bytes.room ≡ 0 }
+        ensures still { self.old.bytes.room ≡ 0 → moved.new ≡ moved.old }
+        ensures few { moved.new ≤ moved.old + length self.old.bytes.items }
+    {
+        self.bytes.take_bytes(moved)
+    }
+
+    /// How many bytes there can be in all before adding some takes memory, at most `isize::MAX`.
+    /// Example: of `b"abc"` after `reserve` of 5 bytes it is 8 or more.
+    pub fn capacity(&self) -> usize
+        ensures value { result ≡ capacity_of self.now.bytes }
+        ensures fits { length self.now.bytes.items ≤ result }
+    {
+        self.bytes.capacity()
+    }
+
+    /// Takes memory ahead, so that so many bytes more can be added without any. No byte moves within.
+    ///
+    /// Refused with `BufferError` exactly where a view is unreleased, and then with `OverflowError` where with them there
+    /// were more than `isize::MAX` bytes. Exporter and room are as before, also where memory runs out.
+    /// Example: after `parts.reserve(5)?` of `b"abc"` its `capacity()` is 8 or more.
+    pub fn reserve(&mut self, additional: usize) -> Result<(), Halt>
+        requires { IsWhole self.old }
+        ensures answer { Answered result (λ _. true) (reservable (exporter_of self.old) additional) }
+        ensures memory { result ≡ Err halts.NoMemory → IsOk (reservable (exporter_of self.old) additional) }
+        ensures same { exporter_of self.new ≡ exporter_of self.old }
+        ensures exports { self.new.exports ≡ self.old.exports }
+        ensures room { self.new.bytes.room ≡ self.old.bytes.room }
+        ensures ok { OnOk result (length self.old.bytes.items + additional ≤ capacity_of self.new.bytes) }
+    {
+        self.resizable()?;
+        if additional > isize::MAX as usize - self.bytes.len() {
+            return Err(Halt::Refused(Fault::Overflow));
+        }
+        self.bytes.reserve(additional)?;
+        Ok(())
+    }
+
+    /// Gives back the memory that the bytes don't need, and the room before them. The bytes move once where there was
+    /// room. Takes no memory.
+    /// Example: `b"cd"` behind a room of two bytes is `b"cd"` without room then.
+    pub fn shrink_to_fit<L: Ledger>(&mut self, moved: &mut Steps<L>)
+        requires free { has_exports (exporter_of self.old) ≡ false }
+        ensures same { exporter_of self.new ≡ exporter_of self.old }
+        ensures exports { self.new.exports ≡ self.old.exports }
+        ensures room { self.new.bytes.room ≡ 0 }
+        ensures memory { self.new.bytes.memory ≤ self.old.bytes.memory }
+        ensures still { self.old.bytes.room ≡ 0 → moved.new ≡ moved.old }
+        ensures few { moved.new ≤ moved.old + length self.old.bytes.items }
+    {
+        self.bytes.shrink_to_fit(moved);
     }
 
     /// Releases a view that was given. The second time changes nothing.

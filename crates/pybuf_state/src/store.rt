@@ -1,7 +1,7 @@
 //! Where the bytes of an exporter are kept. Nothing else touches them.
-ghost use Rattle.std.specs.Prelude.{◌≡◌, ◌≤◌, ◌<◌, ◌+◌, ◌^◌, ◌==◌, ◌++◌, [], length, reverse, set, slice_get, slice_range, IfSome, OnOk, OnErr};
+ghost use Rattle.std.specs.Prelude.{◌≡◌, ◌≤◌, ◌<◌, ◌+◌, ◌^◌, ◌==◌, ◌++◌, [], length, reverse, set, slice_get, slice_range, IfSome, IsOk, OnOk, OnErr};
 
-use pybuf_slice::FrontBytes;
+use pybuf_front::FrontBytes;
 use pybuf_value::{Made, Steps};
 use std::marker::Model;
 use std::sync::ledger::Ledger;
@@ -24,7 +24,7 @@ impl Model for Store {
 impl Store {
     ghost use Rattle.std.specs.Borrow.{sem};
     ghost use Rattle.pybuf_slice.specs.Edits.{replaced_range};
-    ghost use Rattle.pybuf_slice.specs.FrontContent.{IsSpare};
+    ghost use Rattle.pybuf_front.specs.FrontContent.{IsSpare, capacity_of};
     ghost use Rattle.pybuf_state.specs.Store.{LendsItems, LendsItemsFrom, LendsVector};
 
     /// The bytes of a vector, without room. Takes no memory.
@@ -61,6 +61,16 @@ impl Store {
         ensures { result ≡ self.now.room }
     {
         self.bytes.front_room()
+    }
+
+    /// How many bytes there can be in all before adding some takes memory, at most `isize::MAX`.
+    /// Example: of a vector of `b"abc"` it is 3 or more.
+    pub fn capacity(&self) -> usize
+        ensures value { result ≡ capacity_of self.now }
+        ensures fits { length self.now.items ≤ result }
+        ensures small { result < 2 ^ 63 }
+    {
+        self.bytes.capacity()
     }
 
     /// The bytes, lent without a copy.
@@ -138,10 +148,45 @@ impl Store {
         ensures counter { OnOk result (moved.new + self.new.room ≤ moved.old + self.old.room) }
         ensures few { OnOk result (moved.new ≤ moved.old + length self.old.items) }
         ensures spare { OnOk result (IsSpare self.new) }
+        ensures fits { length self.old.items + length bytes.now ≤ capacity_of self.old → IsOk result }
         ensures err { OnErr result (self.new ≡ self.old) }
         ensures err_counter { OnErr result (moved.new ≡ moved.old) }
     {
         self.bytes.push_all(bytes, moved)
+    }
+
+    /// Makes sure that so many bytes more can be added without memory. Where memory runs out, all is as before.
+    pub(crate) fn reserve(&mut self, additional: usize) -> Made<()>
+        ensures items { self.new.items ≡ self.old.items }
+        ensures room { self.new.room ≡ self.old.room }
+        ensures ok { OnOk result (length self.old.items + additional ≤ capacity_of self.new) }
+        ensures fits { length self.old.items + additional ≤ capacity_of self.old → IsOk result }
+        ensures err { OnErr result (self.new ≡ self.old) }
+    {
+        self.bytes.reserve(additional)
+    }
+
+    /// Gives back the memory that the bytes don't need, and the room. The bytes move once where there is room.
+    pub(crate) fn shrink_to_fit<L: Ledger>(&mut self, moved: &mut Steps<L>)
+        ensures items { self.new.items ≡ self.old.items }
+        ensures room { self.new.room ≡ 0 }
+        ensures memory { self.new.memory ≤ self.old.memory }
+        ensures still { self.old.room ≡ 0 → moved.new ≡ moved.old }
+        ensures few { moved.new ≤ moved.old + length self.old.items }
+    {
+        self.bytes.shrink_to_fit(moved);
+    }
+
+    /// Hands all bytes over as a vector, and leaves none and no room. They move once where there is room before them,
+    /// and else not. Takes no memory.
+    pub(crate) fn take_bytes<L: Ledger>(&mut self, moved: &mut Steps<L>) -> Vec<u8>
+        ensures value { result.items ≡ self.old.items }
+        ensures items { self.new.items ≡ [] }
+        ensures room { self.new.room ≡ 0 }
+        ensures still { self.old.room ≡ 0 → moved.new ≡ moved.old }
+        ensures few { moved.new ≤ moved.old + length self.old.items }
+    {
+        self.bytes.take_bytes(moved)
     }
 
     /// Puts other bytes in place of those from one place up to another, as many as there are. The bytes
@@ -157,7 +202,8 @@ impl Store {
         requires inside { end ≤ length self.old.items }
         ensures ok { OnOk result (self.new.items ≡ replaced_range self.old.items start end bytes.now) }
         ensures counter { OnOk result (moved.new ≤ moved.old + (length self.old.items + length self.new.items)) }
-        ensures err { OnErr result (self.new ≡ self.old) }
+        ensures err_items { OnErr result (self.new.items ≡ self.old.items) }
+        ensures err_room { OnErr result (self.new.room ≡ self.old.room) }
         ensures err_counter { OnErr result (moved.new ≡ moved.old) }
     {
         self.bytes.splice(start..end, bytes, moved)

@@ -41,7 +41,7 @@ pub fn edit_of_own<N: Names, L: Ledger>(
         Verb::IAdd { value } => growing::iadd(parts, value, names, moved),
         Verb::IMul { count } => growing::imul(parts, count),
         Verb::Init { options } => replacing::init(parts, options, names),
-        Verb::Take => shrinking::take(parts),
+        Verb::Take => shrinking::take(parts, moved),
         Verb::Copy => replacing::copy(parts),
         Verb::Set {
             key: Value::Slice(slice),

@@ -4,7 +4,7 @@ ghost use Rattle.pybuf_index.specs.Parts.{picks_of};
 ghost use Rattle.pybuf_state.specs.Exporter.{exports_of};
 ghost use Rattle.pybuf_state.specs.Answers.{exporter_of, IsWhole, AnswersIn};
 ghost use Rattle.pybuf_verbs_edits.specs.Counting.{AreFirst};
-ghost use Rattle.pybuf_verbs_edits.specs.Paying.{PopIsPaid, RemoveIsPaid, DeleteByteIsPaid, DeleteSliceIsPaid, DeleteIsPaid};
+ghost use Rattle.pybuf_verbs_edits.specs.Paying.{IsPaid, PopIsPaid, RemoveIsPaid, DeleteByteIsPaid, DeleteSliceIsPaid, DeleteIsPaid};
 ghost use Rattle.pybuf_verbs_edits.specs.Shrinking as spec;
 
 use pybuf_byte_slices::close_up;
@@ -220,27 +220,26 @@ pub fn delete<L: Ledger>(
     }
 }
 
-fn take_all(parts: &mut Parts) -> Result<LocalReply, Halt>
+fn take_all<L: Ledger>(parts: &mut Parts, moved: &mut Steps<L>) -> Result<LocalReply, Halt>
     requires { IsWhole parts.old }
     ensures answer { AnswersIn parts.old spec.taken result parts.new }
     ensures counted { parts.new.exports ≡ exports_of (exporter_of parts.new) }
-    ensures err_room { OnErr result (parts.new.bytes.room ≡ parts.old.bytes.room) }
+    ensures paid { IsPaid parts.old moved.old result parts.new moved.new }
 {
     parts.resizable()?;
-    let bytes = Vec::from_slice(parts.alloc, parts.bytes.as_slice())?;
-    parts.replace_bytes(Vec::new(parts.alloc));
+    let bytes = parts.take_bytes(moved);
     Ok(LocalReply::Bytes(ByteList::from_vec(bytes)))
 }
 
-/// Takes all bytes out of a vector, read-only or not. The reply is these bytes.
-pub fn take(parts: &mut Parts) -> Result<LocalReply, Halt>
+/// Takes all bytes out of a vector, read-only or not. The reply is these bytes, which are not copied.
+pub fn take<L: Ledger>(parts: &mut Parts, moved: &mut Steps<L>) -> Result<LocalReply, Halt>
     requires { IsWhole parts.old }
     ensures answer { AnswersIn parts.old spec.take_of_own result parts.new }
     ensures counted { parts.new.exports ≡ exports_of (exporter_of parts.new) }
-    ensures err_room { OnErr result (parts.new.bytes.room ≡ parts.old.bytes.room) }
+    ensures paid { IsPaid parts.old moved.old result parts.new moved.new }
 {
     match parts.kind {
-        ExporterKind::Vector { readonly: _ } => take_all(parts),
+        ExporterKind::Vector { readonly: _ } => take_all(parts, moved),
         _ => Err(Halt::Refused(Fault::UnknownName)),
     }
 }

@@ -67,7 +67,7 @@ fn edit_plainly(array: &mut PyByteArray, alloc: Global, told: &mut Vec<u8>) -> R
     say(told, Word::Bytes(part.as_slice()));
     array.truncate(3)?;
     array.drain_front(1)?;
-    let copy = array.try_clone(alloc)?.into_vec(alloc)?;
+    let copy = array.try_clone(alloc)?.into_vec()?;
     say(told, Word::Bytes(copy.as_slice()));
     array.clear_all()?;
     say(told, Word::Count(array.byte_count()));

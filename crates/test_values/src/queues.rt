@@ -1,7 +1,7 @@
 //! Bytes behind free room, by a function that is generic in the ledger of what is moved.
 ghost use Rattle.std.specs.Prelude.{◌≡◌};
 
-use pybuf_slice::FrontBytes;
+use pybuf_front::FrontBytes;
 use pybuf_value::{Made, Steps};
 use std::alloc::Global;
 use std::marker::Brand;

@@ -3,7 +3,7 @@ use Rattle.std.proofs.Common.{ap, ◌∙◌}
 use Rattle.pybuf_command.specs.Kinds.{holds_readonly}
 use Rattle.pybuf_exporter.specs.Stored.{StoredExporter}
 use Rattle.pybuf_exporter.proofs.Resizing.{whole_after}
-use Rattle.pybuf_exporter.proofs.exporter.ExporterState.replace_bytes.Goals as goal
+use Rattle.pybuf_exporter.proofs.exporter.ExporterState.replace_range.Goals as goal
 
 pub invariant_of-self : goal.invariant_of-self
 invariant_of-self c =

@@ -4,7 +4,7 @@ use Rattle.std.proofs.Common.{ap, ◌∙◌}
 use Rattle.pybuf_command.specs.Kinds.{holds_readonly}
 use Rattle.pybuf_exporter.specs.Stored.{StoredExporter}
 use Rattle.pybuf_exporter.proofs.Resizing.{whole_at_once}
-use Rattle.pybuf_exporter.proofs.exporter.ExporterState.remove_bytes.Goals as goal
+use Rattle.pybuf_exporter.proofs.exporter.ExporterState.remove_range.Goals as goal
 
 pub invariant_of-self : goal.invariant_of-self
 invariant_of-self c =

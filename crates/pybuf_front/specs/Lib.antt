@@ -1,0 +1,2 @@
+pub mod FrontContent
+pub mod Front
