@@ -1,8 +1,10 @@
 //! Views that borrow their exporter, and are released where they end.
 #![tactic(auto)]
 
+mod contents;
 mod group;
 mod laws;
+mod numbered;
 mod owner;
 mod stop;
 mod view;
