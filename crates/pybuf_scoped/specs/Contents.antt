@@ -1,5 +1,5 @@
 -- What calls on the bytes of a view give.
-use Rattle.std.specs.Prelude.{ℕ, ℤ, List, Option, Result, Ok}
+use Rattle.std.specs.Prelude.{ℕ, ℤ, Bool, List, Option, Result, Ok, bytes_eq}
 use Rattle.pybuf_value.specs.declared.faults.Fault.{Fault}
 use Rattle.pybuf_value.specs.declared.lent.Lent.{Lent}
 use Rattle.pybuf_value.specs.Lent.{lent_bytes}
@@ -10,6 +10,7 @@ use Rattle.std.specs.Borrow.{Bor}
 use Rattle.pybuf_search.specs.Places.{first_place, number_of_matches}
 use Rattle.pybuf_bytes.specs.Searching.{split_of}
 use Rattle.pybuf_shaping.specs.Replacing.{replacement}
+use Rattle.pybuf_shaping.specs.Digits.{hex_text}
 use Rattle.pybuf_letters.specs.Strips.{stripped, goes}
 use Rattle.pybuf_command.specs.declared.kinds.Subject.TheVariants as subject
 use Rattle.pybuf_state.specs.Exporter.{Exporter}
@@ -59,6 +60,18 @@ stripped_in chars given = do
   bytes ← given
   Ok (stripped (goes chars) bytes)
 
+-- the digits of the bytes
+abbrev pub digits_in : Option (List ℕ) → ℤ → Result (List ℕ) Fault → Result (List ℕ) Fault
+digits_in separator size given = do
+  bytes ← given
+  hex_text separator size bytes
+
+-- whether the bytes are these
+abbrev pub same_in : List ℕ → Result (List ℕ) Fault → Result Bool Fault
+same_in other given = do
+  bytes ← given
+  Ok (bytes_eq bytes other)
+
 -- ---- what the calls answer
 
 -- the bytes, lent or gathered, or their refusal
@@ -84,3 +97,11 @@ ReplacesIn bytes old new most result = Answered (halted result) (λ x. x) (repla
 -- the part of the bytes between what goes at both ends, or their refusal
 abbrev pub StripsTo : Result (List ℕ) Fault → Option (List ℕ) → Result (Bor (List ℕ)) Stop → Type 0
 StripsTo bytes chars result = Answered (halted result) (λ x. x.now) (stripped_in chars bytes)
+
+-- the digits of the bytes, or the refusal of these or of the separator
+abbrev pub WritesDigits : Result (List ℕ) Fault → Option (List ℕ) → ℤ → Result (List ℕ) Stop → Type 0
+WritesDigits bytes separator size result = Answered (halted result) (λ x. x) (digits_in separator size bytes)
+
+-- whether the bytes are these, or their refusal
+abbrev pub ComparesWith : Result (List ℕ) Fault → List ℕ → Result Bool Stop → Type 0
+ComparesWith bytes other result = Answered (halted result) (λ x. x) (same_in other bytes)

@@ -3,7 +3,7 @@ ghost use Rattle.std.specs.Prelude.{◌≡◌};
 ghost use Rattle.std.specs.Option.{option_copied};
 ghost use Rattle.pybuf_scoped.specs.declared.stop.Cause.{Cause};
 ghost use Rattle.pybuf_scoped.specs.Stops.{Tells};
-ghost use Rattle.pybuf_scoped.specs.Contents.{view_bytes, view_run, LendsContent, FindsIn, CountsIn, SplitsAt, ReplacesIn, StripsTo};
+ghost use Rattle.pybuf_scoped.specs.Contents.{view_bytes, view_run, LendsContent, FindsIn, CountsIn, SplitsAt, ReplacesIn, StripsTo, WritesDigits, ComparesWith};
 ghost use Rattle.pybuf_scoped.specs.Views.{EndsWith};
 
 use crate::group::{Member, ViewGroup};
@@ -11,7 +11,7 @@ use crate::numbered;
 use crate::owner::Owner;
 use crate::stop::{Cause, Stop};
 use crate::view::View;
-use pybuf_value::{ByteList, ByteLists, Lent, PySlice};
+use pybuf_value::{ByteList, ByteLists, Lent, PySlice, Text};
 use std::alloc::Global;
 
 impl<'a, O: Owner> View<'a, O> {
@@ -95,6 +95,29 @@ impl<'a, O: Owner> View<'a, O> {
         ensures cause { Tells Cause.Content result }
     {
         numbered::stripped(&*self.owner, self.number, chars)
+    }
+
+    /// The bytes of the items as hexadecimal digits, as Python's `view.hex(separator, size)`: the separator stands
+    /// between each `size` bytes, counted from the end, or from the start where `size` is negative.
+    ///
+    /// Refused with `ValueError` for a separator that isn't one ASCII byte, where there are bytes and `size` isn't 0,
+    /// and with `OverflowError` where that is more than `isize::MAX` digits.
+    /// Example: of a view of `b"\xb9\x01\xef"` the separator `b"-"` and the size 1 give `b9-01-ef`.
+    pub fn hex(&self, alloc: Global, separator: Option<&[u8]>, size: isize) -> Result<Text, Stop>
+        ensures answer { WritesDigits (view_bytes (under O.exporter self.now) self.now.number) (option_copied separator.entry) size result }
+        ensures cause { Tells Cause.Digits result }
+    {
+        numbered::hex(alloc, &*self.owner, self.number, separator, size)
+    }
+
+    /// Whether the bytes of the items are these, as Python's `view.tobytes() == other`. They are copied only where they
+    /// lie apart. It stops only where memory runs out.
+    /// Example: the view `memoryview(b"abcdef")[::2]` equals `b"ace"`.
+    pub fn equals(&self, alloc: Global, other: &[u8]) -> Result<bool, Stop>
+        ensures answer { ComparesWith (view_bytes (under O.exporter self.now) self.now.number) other.now result }
+        ensures cause { Tells Cause.Content result }
+    {
+        numbered::equals(alloc, &*self.owner, self.number, other)
     }
 
     /// Writes the items of a view of another exporter over those that a slice picks, as Python's `view[1:4] = other`.
@@ -215,6 +238,34 @@ impl<'a, O: Owner> ViewGroup<'a, O> {
         ensures cause { Tells Cause.Content result }
     {
         numbered::stripped(&*self.owner, member.number, chars)
+    }
+
+    /// The bytes of a view's items as hexadecimal digits, as Python's `view.hex(separator, size)`.
+    ///
+    /// Refused with `UnknownName` for a view of another group, if this exporter has no view of its number, and then as
+    /// `View::hex` is.
+    /// Example: of a view of `b"\xb9\x01\xef"` the separator `b"-"` and the size 1 give `b9-01-ef`.
+    pub fn hex(
+        &self,
+        alloc: Global,
+        member: &Member<'a>,
+        separator: Option<&[u8]>,
+        size: isize,
+    ) -> Result<Text, Stop>
+        ensures answer { WritesDigits (view_bytes (shared O.exporter self.now) member.now.number) (option_copied separator.entry) size result }
+        ensures cause { Tells Cause.Digits result }
+    {
+        numbered::hex(alloc, &*self.owner, member.number, separator, size)
+    }
+
+    /// Whether the bytes of a view's items are these. They are copied only where they lie apart. A view of another group
+    /// is refused with `UnknownName`, if this exporter has no view of its number.
+    /// Example: the view `memoryview(b"abcdef")[::2]` equals `b"ace"`.
+    pub fn equals(&self, alloc: Global, member: &Member<'a>, other: &[u8]) -> Result<bool, Stop>
+        ensures answer { ComparesWith (view_bytes (shared O.exporter self.now) member.now.number) other.now result }
+        ensures cause { Tells Cause.Content result }
+    {
+        numbered::equals(alloc, &*self.owner, member.number, other)
     }
 
     /// Writes the items of a view of the group over those of another that a slice picks, also where the two overlap.

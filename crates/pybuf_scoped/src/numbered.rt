@@ -4,9 +4,10 @@ ghost use Rattle.std.specs.Option.{option_copied};
 ghost use Rattle.pybuf_value.specs.Halting.{Gives};
 ghost use Rattle.pybuf_bytes.specs.Searching.{split_of};
 ghost use Rattle.pybuf_shaping.specs.Replacing.{replacement};
+ghost use Rattle.pybuf_shaping.specs.Digits.{hex_text};
 ghost use Rattle.pybuf_scoped.specs.declared.stop.Cause.{Cause};
 ghost use Rattle.pybuf_scoped.specs.Stops.{Tells, LendsBytes};
-ghost use Rattle.pybuf_scoped.specs.Contents.{view_bytes, view_run, LendsContent, FindsIn, CountsIn, SplitsAt, ReplacesIn, StripsTo};
+ghost use Rattle.pybuf_scoped.specs.Contents.{view_bytes, view_run, LendsContent, FindsIn, CountsIn, SplitsAt, ReplacesIn, StripsTo, WritesDigits, ComparesWith};
 ghost use Rattle.pybuf_scoped.specs.Views.{entries_of, EndsWith, ReadsItem, ReadsBytes, Puts, AssignsBytes, AssignsItems};
 
 use crate::owner::Owner;
@@ -15,7 +16,7 @@ use pybuf_command::Subject;
 use pybuf_exporter::ExporterState;
 use pybuf_letters::{split_at_blanks, strip};
 use pybuf_search::{first_place, number_of_matches};
-use pybuf_value::{ByteList, ByteLists, Fault, Halt, Item, Lent, Outcome, PySlice};
+use pybuf_value::{ByteList, ByteLists, Fault, Halt, Item, Lent, Outcome, PySlice, Text};
 use std::alloc::Global;
 
 /// The number of entries of the first dimension of a view, and 0 if it has none.
@@ -295,4 +296,51 @@ pub(crate) fn stripped<'a, O: Owner>(
 {
     let bytes = run(owner, view)?;
     Ok(strip(bytes, chars))
+}
+
+/// The hexadecimal digits of bytes.
+fn digits_of(
+    alloc: Global,
+    bytes: &[u8],
+    separator: Option<&[u8]>,
+    size: isize,
+) -> Result<Text, Halt>
+    ensures { Gives (hex_text (option_copied separator.entry) size bytes.now) result }
+{
+    match pybuf_shaping::hex_text(alloc, bytes, separator, size)? {
+        Outcome::Done(text) => Ok(text),
+        Outcome::Refused(fault) => Err(Halt::Refused(fault)),
+    }
+}
+
+/// The hexadecimal digits of the bytes of the items.
+pub(crate) fn hex<O: Owner>(
+    alloc: Global,
+    owner: &O,
+    view: usize,
+    separator: Option<&[u8]>,
+    size: isize,
+) -> Result<Text, Stop>
+    ensures answer { WritesDigits (view_bytes (O.exporter owner.now) view) (option_copied separator.entry) size result }
+    ensures cause { Tells Cause.Digits result }
+{
+    let bytes = content(alloc, owner, view, Cause::Digits)?;
+    match digits_of(alloc, bytes.as_slice(), separator, size) {
+        Ok(text) => Ok(text),
+        Err(halt) => Err(Stop::new(halt, Cause::Digits)),
+    }
+}
+
+/// Whether the bytes of the items are these.
+pub(crate) fn equals<O: Owner>(
+    alloc: Global,
+    owner: &O,
+    view: usize,
+    other: &[u8],
+) -> Result<bool, Stop>
+    ensures answer { ComparesWith (view_bytes (O.exporter owner.now) view) other.now result }
+    ensures cause { Tells Cause.Content result }
+{
+    let bytes = content(alloc, owner, view, Cause::Content)?;
+    Ok(bytes.as_slice() == other)
 }

@@ -76,6 +76,9 @@ pub enum Cause {
     /// Other bytes were to be put in place of some of the view's, in a copy.
     /// Example: `view.replace(alloc, b"a", b"bc", -1)` has it, where memory runs out.
     Replaced,
+    /// The bytes of the view were to be written as hexadecimal digits.
+    /// Example: `view.hex(alloc, Some(b"--"), 1)` has it, since the separator isn't one byte.
+    Digits,
     /// The bytes of the view were asked for.
     /// Example: `view.bytes()` of every second byte has it, since these don't lie one after the other.
     Content,
@@ -173,6 +176,7 @@ fn write_cause<W: fmt::Write>(cause: Cause, f: &mut fmt::Formatter<W>) -> fmt::R
         }
         Cause::Parts => f.write_str("the bytes of the view can't be split"),
         Cause::Replaced => f.write_str("no bytes of the view can be replaced"),
+        Cause::Digits => f.write_str("the digits of the view can't be written"),
         Cause::Content => f.write_str("the bytes of the view can't be lent"),
     }
 }
@@ -191,6 +195,7 @@ fn value_text(cause: Cause) -> &'static str {
             length: _,
         } => "the step is 0, or the items have another format, size or shape",
         Cause::Parts => "the separator has no bytes",
+        Cause::Digits => "the separator isn't one ASCII byte",
         _ => "the value can't be used",
     }
 }
