@@ -10,6 +10,7 @@ use crate::numbers::{Each, EachNumber};
 use crate::plan::Plan;
 use crate::queues::{AppendPop, Queue};
 use crate::records::{Packing, Records};
+use crate::scoped::{InScope, Scoped};
 use crate::strings::{Call, Method};
 use crate::tables::{Asked, Table};
 use crate::viewed::{Given, Order};
@@ -27,6 +28,8 @@ pub enum Work {
     Beside(Pair, &'static str, &'static str),
     /// Views are made and released, by plain arguments or not.
     Make(Making, bool),
+    /// Something is done with scoped views.
+    InScope(InScope),
     /// Records are read or written.
     Records(Packing),
     /// A bytearray grows and shrinks.
@@ -231,7 +234,7 @@ pub const COPY_KERNELS: [(&str, Work); 38] = [
 ];
 
 /// Kernels of views that are made, of items, of records and of bytearrays that grow and shrink.
-pub const ITEM_KERNELS: [(&str, Work); 28] = [
+pub const ITEM_KERNELS: [(&str, Work); 36] = [
     (
         "tobytes-columns",
         Work::Views(Given::Table(BYTE), Doing::ToBytesInColumnOrder),
@@ -283,6 +286,17 @@ pub const ITEM_KERNELS: [(&str, Work); 28] = [
         "plain-set-i",
         Work::Views(Given::Items(INT), Doing::SetPlainly(1_000_003)),
     ),
+    ("scoped-views", Work::InScope(InScope::Make(Making::View))),
+    ("scoped-slices", Work::InScope(InScope::Make(Making::Slice))),
+    (
+        "scoped-slices-planes",
+        Work::InScope(InScope::Make(Making::SliceOfPlanes)),
+    ),
+    ("scoped-casts", Work::InScope(InScope::Make(Making::Cast))),
+    ("scoped-get-B", Work::InScope(InScope::Get(BYTE))),
+    ("scoped-get-i", Work::InScope(InScope::Get(INT))),
+    ("scoped-set-B", Work::InScope(InScope::Set(BYTE, 251))),
+    ("scoped-set-i", Work::InScope(InScope::Set(INT, 1_000_003))),
     ("set-record", Work::Records(Packing::Set)),
     ("unpack", Work::Records(Packing::Unpack)),
     ("pack-into", Work::Records(Packing::PackInto)),
@@ -405,6 +419,7 @@ pub fn measure_work<R: CpuClock + AllocGlobal>(
             };
             measure(rt, plan, kernel)
         }
+        Work::InScope(doing) => measure(rt, plan, Scoped::of(alloc, plan, doing)?),
         Work::Records(packing) => measure(rt, plan, Records::of(alloc, plan, packing)?),
         Work::Grow => measure(rt, plan, AppendPop { count: plan.count }),
         Work::Queue(size) => measure(rt, plan, Queue::of(alloc, plan, size)?),

@@ -20,6 +20,7 @@ mod numbers;
 mod plan;
 mod queues;
 mod records;
+mod scoped;
 mod strings;
 mod tables;
 mod viewed;

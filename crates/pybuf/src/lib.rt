@@ -157,6 +157,7 @@ pub use pybuf_object::plain_writes_are_commands;
 pub use pybuf_scoped::Cause;
 pub use pybuf_scoped::Member;
 pub use pybuf_scoped::Owner;
+pub use pybuf_scoped::Scoped;
 pub use pybuf_scoped::Stop;
 pub use pybuf_scoped::View;
 pub use pybuf_scoped::ViewGroup;

@@ -1,3 +1,4 @@
 pub mod Stops
 pub mod Views
 pub mod Laws
+pub mod Contents

@@ -27,6 +27,14 @@ abbrev pub RefusedAs : {A : Type 0} → Result A Fault → Halt → Type 0
 RefusedAs given (halt.Refused f) = given ≡ Err f
 RefusedAs given halt.NoMemory = Unit {0}
 
+-- a call that gives nothing is refused by a definition, or memory ran out
+abbrev pub RefusedBy : {A X : Type 0} → Result A Fault → Result X Stop → Type 0
+RefusedBy given result = IfErr result (λ stop. RefusedAs given stop.halt)
+
+-- memory ran out where a call gives nothing
+abbrev pub StopsForMemory : {X : Type 0} → Result X Stop → Type 0
+StopsForMemory result = IfErr result (λ stop. stop.halt ≡ halt.NoMemory)
+
 -- what is lent is what a definition says, or its refusal stands in its place
 abbrev pub LendsBytes : {X : Type 0} → Result X Fault → Result (Bor X) Stop → Type 0
 LendsBytes wanted result = Answered (halted result) (λ x. x.now) wanted

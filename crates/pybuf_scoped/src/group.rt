@@ -1,27 +1,15 @@
 //! Several views over one exporter, which see each other's writes.
-ghost use Rattle.std.specs.Prelude.{◌≡◌, ◌-◌, length, None, Ok, IfOk, IfErr, OnErr};
-ghost use Rattle.pybuf_command.specs.declared.kinds.Subject.TheVariants as subjects;
-ghost use Rattle.pybuf_command.specs.declared.commands.LocalReply.TheVariants as replies;
-ghost use Rattle.pybuf_value.specs.declared.halt.Halt.TheVariants as halts;
-ghost use Rattle.pybuf_value.specs.Snaps.{content_of};
-ghost use Rattle.pybuf_state.specs.Answers.{Reads, as_item, as_bytes};
-ghost use Rattle.pybuf_state.specs.Snaps.{snap_of_subject};
+ghost use Rattle.std.specs.Prelude.{◌≡◌, ◌-◌, length, IfOk, OnErr};
 ghost use Rattle.pybuf_verbs_views.specs.View.{view_of_own};
-ghost use Rattle.pybuf_verbs_views.specs.Cast.{flat_cast_of_view};
-ghost use Rattle.pybuf_verbs_reads.specs.Get.{item_at_index};
-ghost use Rattle.pybuf_verbs_reads.specs.ToBytes.{bytes_of_view};
-ghost use Rattle.pybuf_exporter.specs.Stepping.{number_put};
-ghost use Rattle.pybuf_exporter.specs.Telling.{TellsRefusal};
 ghost use Rattle.pybuf_scoped.specs.declared.stop.Cause.{Cause};
-ghost use Rattle.pybuf_scoped.specs.Stops.{halted, Tells, RefusedAs, LendsBytes};
-ghost use Rattle.pybuf_scoped.specs.Views.{entries_of, released_run};
+ghost use Rattle.pybuf_scoped.specs.Stops.{Tells, RefusedBy, StopsForMemory, LendsBytes};
+ghost use Rattle.pybuf_scoped.specs.Views.{released_run};
 
+use crate::numbered;
 use crate::owner::Owner;
 use crate::stop::{Cause, Stop};
-use crate::view::entries;
-use pybuf_command::Subject;
 use pybuf_exporter::ExporterState;
-use pybuf_value::{Halt, Item, PySlice};
+use pybuf_value::{Item, PySlice};
 use std::marker::PhantomData;
 
 /// Releases the views from a number on.
@@ -43,7 +31,7 @@ fn release_from(state: &mut ExporterState, first: usize)
 /// Example: `group.view()?` is a member of `group`, which `group.get(&member, 0)` reads.
 #[derive(Clone, Copy, Debug)]
 pub struct Member<'a> {
-    number: usize,
+    pub(crate) number: usize,
     of: PhantomData<&'a ()>,
 }
 
@@ -55,16 +43,16 @@ pub struct Member<'a> {
 /// its number.
 /// Example: what `group.set(&bytes, 0, 1)` writes, `group.get(&numbers, 0)` reads, where `numbers` is a cast of `bytes`.
 pub struct ViewGroup<'a, O: Owner> {
-    owner: &'a mut O,
+    pub(crate) owner: &'a mut O,
     first: usize,
 }
 
 /// Releases all views of the group. Its exporter changes in nothing else.
 impl<'a, O: Owner> Drop for ViewGroup<'a, O> {
-    ghost use Rattle.pybuf_scoped.specs.Views.{EndsWith, after_group};
+    ghost use Rattle.pybuf_scoped.specs.Views.{EndsGroup};
 
     fn drop(self)
-        ensures { EndsWith O.with self.entry.owner.now (after_group (O.exporter self.entry.owner.now) self.entry.first) self.exit.0.now }
+        ensures { EndsGroup O.exporter O.with self.entry self.exit.0.now }
     {
         let ViewGroup { owner, first } = self;
         release_from(owner.exporter_mut(), first);
@@ -72,7 +60,8 @@ impl<'a, O: Owner> Drop for ViewGroup<'a, O> {
 }
 
 impl<'a, O: Owner> ViewGroup<'a, O> {
-    ghost use Rattle.pybuf_scoped.specs.Views.{EndsWith, AssignsBytes, SlicesTo, RefusesSlice};
+    ghost use Rattle.pybuf_scoped.specs.Contents.{view_run};
+    ghost use Rattle.pybuf_scoped.specs.Views.{EndsWith, shared, length_in, MakesMember, cast_in, SlicesMember, RefusesSlice, ReadsItem, ReadsBytes, Puts, AssignsMember};
 
     /// A group without views. Takes no memory.
     /// Example: `ViewGroup::of(&mut array)` of `bytearray(b"abc")` has no view yet.
@@ -88,13 +77,14 @@ impl<'a, O: Owner> ViewGroup<'a, O> {
     /// A view of all bytes, as Python's `memoryview(object)`. It is never refused, and stops only where memory runs
     /// out.
     /// Example: of `bytearray(b"abc")` it has the items 97, 98 and 99.
+    #[inline(always)]
     pub fn view(&mut self) -> Result<Member<'a>, Stop>
         ensures same_reference { self.new.owner.ghost_name ≡ self.old.owner.ghost_name }
         ensures first { self.new.first ≡ self.old.first }
-        ensures made { IfOk result (λ member. view_of_own (O.exporter self.old.owner.now) ≡ Ok (O.exporter self.new.owner.now, replies.View member.number)) }
+        ensures made { IfOk result (MakesMember O.exporter (view_of_own (shared O.exporter self.old)) self.new) }
         ensures err { OnErr result (O.exporter self.new.owner.now ≡ O.exporter self.old.owner.now) }
         ensures owner { EndsWith O.with self.old.owner.now (O.exporter self.new.owner.now) self.new.owner.now }
-        ensures memory { IfErr result (λ stop. stop.halt ≡ halts.NoMemory) }
+        ensures memory { StopsForMemory result }
         ensures cause { Tells Cause.Whole result }
     {
         match self.owner.exporter_mut().add_whole() {
@@ -110,6 +100,7 @@ impl<'a, O: Owner> ViewGroup<'a, O> {
     ///
     /// Refused with `TypeError` where it has no dimension, and then with `ValueError` for a step of 0.
     /// Example: of a view of `b"abcdef"` the slice `1..4` gives a view of `b"bcd"`.
+    #[inline(always)]
     pub fn slice<S: Into<PySlice>>(
         &mut self,
         member: &Member<'a>,
@@ -117,11 +108,11 @@ impl<'a, O: Owner> ViewGroup<'a, O> {
     ) -> Result<Member<'a>, Stop>
         ensures same_reference { self.new.owner.ghost_name ≡ self.old.owner.ghost_name }
         ensures first { self.new.first ≡ self.old.first }
-        ensures made { IfOk result (λ made. SlicesTo (S.converts slice) (O.exporter self.old.owner.now) member.now.number (O.exporter self.new.owner.now) made.number) }
-        ensures refused { IfErr result (λ stop. RefusesSlice (S.converts slice) (O.exporter self.old.owner.now) member.now.number stop.halt) }
+        ensures made { IfOk result (SlicesMember O.exporter (S.converts slice) self.old member.now self.new) }
+        ensures refused { RefusesSlice (S.converts slice) (shared O.exporter self.old) member.now.number result }
         ensures err { OnErr result (O.exporter self.new.owner.now ≡ O.exporter self.old.owner.now) }
         ensures owner { EndsWith O.with self.old.owner.now (O.exporter self.new.owner.now) self.new.owner.now }
-        ensures cause { Tells (Cause.Slice (entries_of (O.exporter self.old.owner.now) member.now.number)) result }
+        ensures cause { Tells (Cause.Slice (length_in O.exporter self.old member.now)) result }
     {
         let length = self.len(member);
         match self
@@ -141,14 +132,15 @@ impl<'a, O: Owner> ViewGroup<'a, O> {
     ///
     /// Refused with `TypeError` or `ValueError` as `PyMemoryView::cast_to` is.
     /// Example: of a view of `b"\x01\x00\x02\x00"` the format `"H"` gives a view with the items 1 and 2.
+    #[inline(always)]
     pub fn cast(&mut self, member: &Member<'a>, format: &str) -> Result<Member<'a>, Stop>
         ensures same_reference { self.new.owner.ghost_name ≡ self.old.owner.ghost_name }
         ensures first { self.new.first ≡ self.old.first }
-        ensures made { IfOk result (λ made. flat_cast_of_view (O.exporter self.old.owner.now) member.now.number format.now ≡ Ok (O.exporter self.new.owner.now, replies.View made.number)) }
-        ensures refused { IfErr result (λ stop. RefusedAs (flat_cast_of_view (O.exporter self.old.owner.now) member.now.number format.now) stop.halt) }
+        ensures made { IfOk result (MakesMember O.exporter (cast_in O.exporter self.old member.now format.now) self.new) }
+        ensures refused { RefusedBy (cast_in O.exporter self.old member.now format.now) result }
         ensures err { OnErr result (O.exporter self.new.owner.now ≡ O.exporter self.old.owner.now) }
         ensures owner { EndsWith O.with self.old.owner.now (O.exporter self.new.owner.now) self.new.owner.now }
-        ensures cause { Tells (Cause.Format (entries_of (O.exporter self.old.owner.now) member.now.number)) result }
+        ensures cause { Tells (Cause.Format (length_in O.exporter self.old member.now)) result }
     {
         let length = self.len(member);
         match self.owner.exporter_mut().add_cast(member.number, format) {
@@ -164,9 +156,9 @@ impl<'a, O: Owner> ViewGroup<'a, O> {
     /// memory.
     /// Example: of a view of `b"abc"` it is 3.
     pub fn len(&self, member: &Member<'a>) -> usize
-        ensures { result ≡ entries_of (O.exporter self.now.owner.now) member.now.number }
+        ensures { result ≡ length_in O.exporter self.now member.now }
     {
-        entries(self.owner.exporter(), member.number)
+        numbered::entries(self.owner.exporter(), member.number)
     }
 
     /// The item of a view at an index, as Python's `view[index]`, where a negative index counts from the end.
@@ -174,20 +166,12 @@ impl<'a, O: Owner> ViewGroup<'a, O> {
     /// Refused with `TypeError` where it has no dimension and with `NotImplementedError` where it has several, and
     /// then with `IndexError` out of range.
     /// Example: of the items 1, 2, 3 in the format `H` the index -1 gives `Item::One(Scalar::Int(3))`.
+    #[inline(always)]
     pub fn get(&self, member: &Member<'a>, index: isize) -> Result<Item, Stop>
-        ensures answer { Reads (item_at_index (O.exporter self.now.owner.now) member.now.number index) (O.exporter self.now.owner.now) (as_item (halted result)) }
-        ensures cause { Tells (Cause.Index index (entries_of (O.exporter self.now.owner.now) member.now.number)) result }
+        ensures answer { ReadsItem (shared O.exporter self.now) member.now.number index result }
+        ensures cause { Tells (Cause.Index index (length_in O.exporter self.now member.now)) result }
     {
-        match self.owner.exporter().item(member.number, index) {
-            Ok(item) => Ok(item),
-            Err(halt) => Err(Stop::new(
-                halt,
-                Cause::Index {
-                    index,
-                    length: self.len(member),
-                },
-            )),
-        }
+        numbered::item(&*self.owner, member.number, index)
     }
 
     /// Writes a number as the item of a view at an index, as Python's `view[index] = number`. All views of the group
@@ -196,29 +180,15 @@ impl<'a, O: Owner> ViewGroup<'a, O> {
     /// Refused with `TypeError` where the view may only be read, then as `get` refuses the index, and then with
     /// `TypeError` where the format of the items doesn't take the number.
     /// Example: in the format `H` the index 0 and the number 513 write `b"\x01\x02"`, and 65,536 is refused with `TypeError`.
+    #[inline(always)]
     pub fn set(&mut self, member: &Member<'a>, index: isize, number: i128) -> Result<(), Stop>
         ensures same_reference { self.new.owner.ghost_name ≡ self.old.owner.ghost_name }
         ensures first { self.new.first ≡ self.old.first }
-        ensures answer { TellsRefusal (number_put (O.exporter self.old.owner.now) member.now.number index number) (O.exporter self.old.owner.now) (halted result) (O.exporter self.new.owner.now) }
+        ensures answer { Puts (shared O.exporter self.old) member.now.number index number result (shared O.exporter self.new) }
         ensures owner { EndsWith O.with self.old.owner.now (O.exporter self.new.owner.now) self.new.owner.now }
-        ensures cause { Tells (Cause.Number number index (entries_of (O.exporter self.old.owner.now) member.now.number)) result }
+        ensures cause { Tells (Cause.Number number index (length_in O.exporter self.old member.now)) result }
     {
-        let length = self.len(member);
-        match self
-            .owner
-            .exporter_mut()
-            .put_number(member.number, index, number)
-        {
-            Ok(()) => Ok(()),
-            Err(halt) => Err(Stop::new(
-                halt,
-                Cause::Number {
-                    number,
-                    index,
-                    length,
-                },
-            )),
-        }
+        numbered::put(self.owner, member.number, index, number)
     }
 
     /// Writes bytes over the items of a view that a slice picks, as Python's `view[1:4] = bytes`. All views of the
@@ -228,6 +198,7 @@ impl<'a, O: Owner> ViewGroup<'a, O> {
     /// has several, and with `ValueError` for a step of 0, for items of another format than `B` and where the bytes are
     /// not as many as the items.
     /// Example: over a view of `b"abcdef"` the slice `0..2` and the bytes `b"12"` make `b"12cdef"`.
+    #[inline(always)]
     pub fn assign<S: Into<PySlice>>(
         &mut self,
         member: &Member<'a>,
@@ -236,33 +207,20 @@ impl<'a, O: Owner> ViewGroup<'a, O> {
     ) -> Result<(), Stop>
         ensures same_reference { self.new.owner.ghost_name ≡ self.old.owner.ghost_name }
         ensures first { self.new.first ≡ self.old.first }
-        ensures answer { AssignsBytes (S.converts slice) member.now.number bytes.now (O.exporter self.old.owner.now) (halted result) (O.exporter self.new.owner.now) }
+        ensures answer { AssignsMember O.exporter (S.converts slice) member.now bytes.now self.old result self.new }
         ensures owner { EndsWith O.with self.old.owner.now (O.exporter self.new.owner.now) self.new.owner.now }
-        ensures cause { Tells (Cause.Bytes (length bytes.now) (entries_of (O.exporter self.old.owner.now) member.now.number)) result }
+        ensures cause { Tells (Cause.Bytes (length bytes.now) (length_in O.exporter self.old member.now)) result }
     {
-        let length = self.len(member);
-        let given = bytes.len();
-        match self
-            .owner
-            .exporter_mut()
-            .assign_bytes(member.number, &slice.into(), bytes)
-        {
-            Ok(()) => Ok(()),
-            Err(halt) => Err(Stop::new(halt, Cause::Bytes { given, length })),
-        }
+        numbered::assign(self.owner, member.number, slice, bytes)
     }
 
-    /// The bytes of a view's items, with the last dimension running fastest, as Python's `view.tobytes()`. It stops
-    /// only where memory runs out.
+    /// The bytes of a view's items, with the last dimension running fastest, as Python's `view.tobytes()`.
     /// Example: of the view `memoryview(b"abcdef")[::-2]` it has the bytes `b"fdb"`.
     pub fn to_vec(&self, member: &Member<'a>) -> Result<Vec<u8>, Stop>
-        ensures answer { Reads (bytes_of_view (O.exporter self.now.owner.now) member.now.number None) (O.exporter self.now.owner.now) (as_bytes (halted result)) }
+        ensures answer { ReadsBytes (shared O.exporter self.now) member.now.number result }
         ensures cause { Tells Cause.Content result }
     {
-        match self.owner.exporter().content(member.number) {
-            Ok(bytes) => Ok(bytes),
-            Err(halt) => Err(Stop::new(halt, Cause::Content)),
-        }
+        numbered::to_vec(&*self.owner, member.number)
     }
 
     /// The bytes of a view's items, lent without a copy. Takes no memory.
@@ -270,12 +228,9 @@ impl<'a, O: Owner> ViewGroup<'a, O> {
     /// Refused with `TypeError` where the items don't lie one after the other.
     /// Example: of the slice `1..4` of a view of `b"abcdef"` it is `b"bcd"`.
     pub fn bytes(&self, member: &Member<'a>) -> Result<&[u8], Stop>
-        ensures answer { LendsBytes (content_of (snap_of_subject (O.exporter self.now.owner.now) (subjects.View member.now.number))) result }
+        ensures answer { LendsBytes (view_run (shared O.exporter self.now) member.now.number) result }
         ensures cause { Tells Cause.Content result }
     {
-        match self.owner.exporter().run_of(Subject::View(member.number)) {
-            Ok(bytes) => Ok(bytes),
-            Err(fault) => Err(Stop::new(Halt::Refused(fault), Cause::Content)),
-        }
+        numbered::run(&*self.owner, member.number)
     }
 }

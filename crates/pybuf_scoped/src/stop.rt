@@ -60,6 +60,25 @@ pub enum Cause {
         /// Example: of a view of six items it is 6.
         length: usize,
     },
+    /// Items of another view were to be written over a slice of the view.
+    /// Example: `view.assign_from(0..2, &other)` has it, where the other view has three items.
+    Items {
+        /// The length of the other view.
+        /// Example: of another view of three items it is 3.
+        given: usize,
+        /// The length of the view.
+        /// Example: of a view of six items it is 6.
+        length: usize,
+    },
+    /// The bytes of the view were to be cut into parts.
+    /// Example: `view.split(alloc, Some(b""), -1)` has it, since the separator has no bytes.
+    Parts,
+    /// Other bytes were to be put in place of some of the view's, in a copy.
+    /// Example: `view.replace(alloc, b"a", b"bc", -1)` has it, where memory runs out.
+    Replaced,
+    /// The bytes of the view were to be written as hexadecimal digits.
+    /// Example: `view.hex(alloc, Some(b"--"), 1)` has it, since the separator isn't one byte.
+    Digits,
     /// The bytes of the view were asked for.
     /// Example: `view.bytes()` of every second byte has it, since these don't lie one after the other.
     Content,
@@ -149,6 +168,15 @@ fn write_cause<W: fmt::Write>(cause: Cause, f: &mut fmt::Formatter<W>) -> fmt::R
                 "bytes of length {given} can't be written over this slice of a view of length {length}"
             )
         }
+        Cause::Items { given, length } => {
+            write!(
+                f,
+                "items of a view of length {given} can't be written over this slice of a view of length {length}"
+            )
+        }
+        Cause::Parts => f.write_str("the bytes of the view can't be split"),
+        Cause::Replaced => f.write_str("no bytes of the view can be replaced"),
+        Cause::Digits => f.write_str("the digits of the view can't be written"),
         Cause::Content => f.write_str("the bytes of the view can't be lent"),
     }
 }
@@ -162,6 +190,12 @@ fn value_text(cause: Cause) -> &'static str {
             length: _,
         } =>
             "the step is 0, the items aren't single bytes, or the slice picks another number of them",
+        Cause::Items {
+            given: _,
+            length: _,
+        } => "the step is 0, or the items have another format, size or shape",
+        Cause::Parts => "the separator has no bytes",
+        Cause::Digits => "the separator isn't one ASCII byte",
         _ => "the value can't be used",
     }
 }
@@ -178,6 +212,10 @@ fn kind_text(cause: Cause) -> &'static str {
         Cause::Format { length: _ } =>
             "its bytes don't lie together, or make no whole number of such items, or the format isn't one",
         Cause::Bytes {
+            given: _,
+            length: _,
+        } => "the view may only be read, or has no dimension",
+        Cause::Items {
             given: _,
             length: _,
         } => "the view may only be read, or has no dimension",

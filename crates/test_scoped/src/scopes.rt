@@ -1,6 +1,6 @@
 //! Views that end with their scope.
 use pybuf_object::PyByteArray;
-use pybuf_scoped::{Stop, View, ViewGroup};
+use pybuf_scoped::{Scoped, Stop, View, ViewGroup};
 use pybuf_value::{Fault, Halt, Item, PySlice, Scalar};
 use std::alloc::Global;
 use std::process::Abort;
@@ -119,5 +119,71 @@ fn a_refusal_tells_its_cause(rt: HostRuntime) -> Result<(), Fail> {
         "bytes of length 1 can't be written over this slice of a view of length 3, since the step is 0, the items aren't single bytes, or the slice picks another number of them\n",
     );
     assert!(rt; told.as_slice() == wanted.as_bytes());
+    Ok(())
+}
+
+/// A number, a line each.
+fn tell_number(alloc: Global, told: &mut Vec<u8>, number: usize) -> Result<(), Halt> {
+    let text = number.to_string(alloc)?;
+    told.extend_from_slice(text.as_bytes())?;
+    told.push(b'\n')?;
+    Ok(())
+}
+
+/// Python: `content = view.tobytes()`, and then its methods.
+fn tell_contents(alloc: Global, array: &mut PyByteArray, told: &mut Vec<u8>) -> Result<(), Halt> {
+    let view = array.view()?;
+    tell_number(alloc, told, view.find(alloc, b"lo")?.unwrap_or(99))?;
+    tell_number(alloc, told, view.count(alloc, b"l")?)?;
+    told.extend_from_slice(view.replace(alloc, b"l", b"LL", 2)?.as_slice())?;
+    told.extend_from_slice(view.strip(Some(b" "))?)?;
+    told.extend_from_slice(view.hex(alloc, Some(b":"), -4)?.as_bytes())?;
+    let parts = view.split(alloc, None, -1)?;
+    tell_number(alloc, told, parts.len())?;
+    tell(alloc, told, view.split(alloc, Some(b""), -1).err())?;
+    Ok(())
+}
+
+#[test]
+fn a_view_is_searched(rt: HostRuntime) -> Result<(), Fail> {
+    let mut array = PyByteArray::from_slice(rt.alloc(), b" hello world ")?;
+    let mut told = Vec::new(rt.alloc());
+    tell_contents(rt.alloc(), &mut array, &mut told)?;
+    let wanted = concat!(
+        "4\n3\n heLLLLo world hello world2068656c:6c6f2077:6f726c64:20",
+        "2\nthe bytes of the view can't be split, since the separator has no bytes\n",
+    );
+    assert!(rt; told.as_slice() == wanted.as_bytes());
+    Ok(())
+}
+
+/// Python: `back = memoryview(array)[::-2]; front = memoryview(array)[:3]; front[:] = back`.
+fn copy_apart<R: Abort>(rt: &R, alloc: Global, array: &mut PyByteArray) -> Result<(), Halt> {
+    let mut group = array.views();
+    let whole = group.view()?;
+    let back = group.slice(&whole, PySlice::new(None, None, Some(-2)))?;
+    assert!(*rt; group.equals(alloc, &back, b"fdb")?);
+    assert!(*rt; group.find(alloc, &back, b"db")? == Some(1));
+    refuses(rt, group.strip(&back, None), Fault::Kind);
+    group.assign_from(&whole, 0..3, &back)?;
+    refuses(rt, group.assign_from(&whole, 0..2, &back), Fault::Value);
+    Ok(())
+}
+
+/// Python: `memoryview(array)[3:] = memoryview(source)`.
+fn copy_across(array: &mut PyByteArray, source: &mut PyByteArray) -> Result<(), Halt> {
+    let other = source.view()?;
+    let mut view = array.view()?;
+    view.assign_from(3.., &other)?;
+    Ok(())
+}
+
+#[test]
+fn items_go_from_a_view_to_a_view(rt: HostRuntime) -> Result<(), Fail> {
+    let mut array = PyByteArray::from_slice(rt.alloc(), b"abcdef")?;
+    copy_apart(&rt, rt.alloc(), &mut array)?;
+    let mut source = PyByteArray::from_slice(rt.alloc(), b"XYZ")?;
+    copy_across(&mut array, &mut source)?;
+    assert!(rt; array.as_slice() == b"fdbXYZ".as_slice());
     Ok(())
 }
