@@ -281,6 +281,30 @@ pybuf_status pybuf_cast(pybuf_world *world, pybuf_object view, const char *forma
     return one_object(world, made);
 }
 
+pybuf_status pybuf_lend(pybuf_world *world, pybuf_object view, const uint8_t **at, size_t *length)
+{
+    proved_lent lent = {no_bytes, 0};
+    NEEDS_WORLD(world);
+    NEEDS(at != NULL && length != NULL, PYBUF_NULL_POINTER);
+    uint32_t status = pybuf_proved_lend(&world->handle, view, &lent);
+    NEEDS(status == PYBUF_OK, (pybuf_status)status);
+    *at = lent.at;
+    *length = lent.length;
+    return PYBUF_OK;
+}
+
+pybuf_status pybuf_lend_to_write(pybuf_world *world, pybuf_object view, uint8_t **at, size_t *length)
+{
+    proved_lent_to_write lent = {no_bytes, 0};
+    NEEDS_WORLD(world);
+    NEEDS(at != NULL && length != NULL, PYBUF_NULL_POINTER);
+    uint32_t status = pybuf_proved_lend_to_write(&world->handle, view, &lent);
+    NEEDS(status == PYBUF_OK, (pybuf_status)status);
+    *at = lent.at;
+    *length = lent.length;
+    return PYBUF_OK;
+}
+
 pybuf_status pybuf_get(pybuf_world *world, pybuf_object object, int64_t index, pybuf_number *item)
 {
     NEEDS_WORLD(world);

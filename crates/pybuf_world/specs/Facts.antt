@@ -1,5 +1,5 @@
 -- Facts about the definitions of this crate, with their proofs, for the proofs of the crates above.
-use Rattle.std.proofs.Common.{◌≡◌, ◌+◌, List, [], ◌∷◌, ◌++◌, refl, ap}
+use Rattle.std.proofs.Common.{◌≡◌, List, [], ◌∷◌, ◌++◌, refl, ap}
 use Rattle.pybuf_command.specs.declared.worlds.Command.{Command}
 use Rattle.pybuf_world.specs.World.{World, wstep, world_after_all, replies_of}
 
