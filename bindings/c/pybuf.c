@@ -48,6 +48,20 @@ static uint8_t no_bytes[1];
         NEEDS((pointer) != NULL || (length) == 0, PYBUF_NULL_POINTER);  \
     } while (0)
 
+#define NEEDS_COUNT(pointer, count)                                                              \
+    do {                                                                                         \
+        NEEDS((count) <= (size_t)PTRDIFF_MAX / sizeof *(pointer), PYBUF_TOO_LONG);               \
+        NEEDS((pointer) != NULL || (count) == 0, PYBUF_NULL_POINTER);                            \
+    } while (0)
+
+/* Ends the call if the command wasn't carried out. */
+#define ASKS(call)                                     \
+    do {                                               \
+        uint32_t status = (call);                      \
+        if (status != PYBUF_OK)                        \
+            return (pybuf_status)status;               \
+    } while (0)
+
 static const uint8_t *bytes_at(const void *pointer)
 {
     return pointer ? (const uint8_t *)pointer : no_bytes;
@@ -146,26 +160,17 @@ static const int64_t *numbers_at(const int64_t *pointer)
     return pointer ? pointer : no_numbers;
 }
 
-#define NEEDS_COUNT(pointer, count)                                                              \
-    do {                                                                                         \
-        NEEDS((count) <= (size_t)PTRDIFF_MAX / sizeof *(pointer), PYBUF_TOO_LONG);               \
-        NEEDS((pointer) != NULL || (count) == 0, PYBUF_NULL_POINTER);                            \
-    } while (0)
+/* Each of these reads the last reply to the places that a call was passed. */
 
-/* Ends the call if the command wasn't carried out. */
-#define ASKS(call)                                     \
-    do {                                               \
-        uint32_t status = (call);                      \
-        if (status != PYBUF_OK)                        \
-            return (pybuf_status)status;               \
-    } while (0)
-
-/* Each of these reads the last reply, after a call has tested its pointers. */
+static pybuf_status two_objects(pybuf_world *world, pybuf_object *exporter, pybuf_object *view)
+{
+    return (pybuf_status)pybuf_proved_last_objects(&world->handle, exporter, view);
+}
 
 static pybuf_status one_object(pybuf_world *world, pybuf_object *object)
 {
-    uint64_t exporter = 0, view = 0;
-    ASKS(pybuf_proved_last_objects(&world->handle, &exporter, &view));
+    pybuf_object exporter = 0, view = 0;
+    ASKS(two_objects(world, &exporter, &view));
     *object = view;
     return PYBUF_OK;
 }
@@ -175,6 +180,14 @@ static pybuf_status one_number(pybuf_world *world, pybuf_number *number)
     pybuf_number found = {0, false};
     ASKS(pybuf_proved_last_number(&world->handle, &found.magnitude, &found.negative));
     *number = found;
+    return PYBUF_OK;
+}
+
+static pybuf_status one_size(pybuf_world *world, size_t *size)
+{
+    pybuf_number found = {0, false};
+    ASKS(one_number(world, &found));
+    *size = (size_t)found.magnitude;
     return PYBUF_OK;
 }
 
@@ -219,358 +232,118 @@ static pybuf_status one_truth(pybuf_world *world, pybuf_truth *truth)
     return PYBUF_OK;
 }
 
-pybuf_status pybuf_new(pybuf_world *world, pybuf_kind kind, const void *bytes, size_t length, pybuf_object *object)
+static pybuf_status one_item(pybuf_world *world, bool *there, pybuf_number *item)
 {
-    NEEDS_WORLD(world);
-    NEEDS_BYTES(bytes, length);
-    NEEDS(object != NULL, PYBUF_NULL_POINTER);
-    ASKS(pybuf_proved_new(&world->handle, (uint32_t)kind, bytes_at(bytes), length));
-    return one_object(world, object);
-}
-
-pybuf_status pybuf_view(pybuf_world *world, pybuf_object object, pybuf_object *view)
-{
-    NEEDS_WORLD(world);
-    NEEDS(view != NULL, PYBUF_NULL_POINTER);
-    ASKS(pybuf_proved_view(&world->handle, object));
-    return one_object(world, view);
-}
-
-pybuf_status pybuf_to_readonly(pybuf_world *world, pybuf_object view, pybuf_object *made)
-{
-    NEEDS_WORLD(world);
-    NEEDS(made != NULL, PYBUF_NULL_POINTER);
-    ASKS(pybuf_proved_to_readonly(&world->handle, view));
-    return one_object(world, made);
-}
-
-pybuf_status pybuf_iterate(pybuf_world *world, pybuf_object object, pybuf_object *iterator)
-{
-    NEEDS_WORLD(world);
-    NEEDS(iterator != NULL, PYBUF_NULL_POINTER);
-    ASKS(pybuf_proved_iterate(&world->handle, object));
-    return one_object(world, iterator);
-}
-
-pybuf_status pybuf_copy(pybuf_world *world, pybuf_object array, pybuf_object *made)
-{
-    NEEDS_WORLD(world);
-    NEEDS(made != NULL, PYBUF_NULL_POINTER);
-    ASKS(pybuf_proved_copy(&world->handle, array));
-    return one_object(world, made);
-}
-
-pybuf_status pybuf_to_contiguous(pybuf_world *world, pybuf_object view, pybuf_object *vector, pybuf_object *made)
-{
-    NEEDS_WORLD(world);
-    NEEDS(vector != NULL && made != NULL, PYBUF_NULL_POINTER);
-    ASKS(pybuf_proved_to_contiguous(&world->handle, view));
-    return (pybuf_status)pybuf_proved_last_objects(&world->handle, vector, made);
-}
-
-pybuf_status pybuf_cast(pybuf_world *world, pybuf_object view, const char *format, const int64_t *shape, size_t dimensions, pybuf_object *made)
-{
-    NEEDS_WORLD(world);
-    NEEDS(format != NULL && made != NULL, PYBUF_NULL_POINTER);
-    NEEDS_COUNT(shape, shape ? dimensions : 0);
-    size_t length = strlen(format);
-    if (shape)
-        ASKS(pybuf_proved_cast_to_shape(&world->handle, view, bytes_at(format), length, shape, dimensions));
-    else
-        ASKS(pybuf_proved_cast(&world->handle, view, bytes_at(format), length));
-    return one_object(world, made);
-}
-
-pybuf_status pybuf_get(pybuf_world *world, pybuf_object object, int64_t index, pybuf_number *item)
-{
-    NEEDS_WORLD(world);
-    NEEDS(item != NULL, PYBUF_NULL_POINTER);
-    pybuf_number found = {0, false};
-    ASKS(pybuf_proved_get_number(&world->handle, object, index, &found.magnitude, &found.negative));
-    *item = found;
-    return PYBUF_OK;
-}
-
-pybuf_status pybuf_get_at(pybuf_world *world, pybuf_object view, const int64_t *indices, size_t count, pybuf_number *item)
-{
-    NEEDS_WORLD(world);
-    NEEDS_COUNT(indices, count);
-    NEEDS(item != NULL, PYBUF_NULL_POINTER);
-    ASKS(pybuf_proved_get_at(&world->handle, view, numbers_at(indices), count));
-    return one_number(world, item);
-}
-
-pybuf_status pybuf_get_item_bytes(pybuf_world *world, pybuf_object view, int64_t index, void *room, size_t room_length, size_t *length)
-{
-    NEEDS_WORLD(world);
-    NEEDS_BYTES(room, room_length);
-    NEEDS(length != NULL, PYBUF_NULL_POINTER);
-    ASKS(pybuf_proved_get(&world->handle, view, index));
-    return one_text(world, room, room_length, length);
-}
-
-pybuf_status pybuf_get_slice(pybuf_world *world, pybuf_object view, const pybuf_slice *slice, pybuf_object *made)
-{
-    NEEDS_WORLD(world);
-    NEEDS(slice != NULL, PYBUF_NULL_POINTER);
-    NEEDS(made != NULL, PYBUF_NULL_POINTER);
-    ASKS(pybuf_proved_get_slice(&world->handle, view, slice));
-    return one_object(world, made);
-}
-
-pybuf_status pybuf_get_slice_bytes(pybuf_world *world, pybuf_object exporter, const pybuf_slice *slice, void *room, size_t room_length, size_t *length)
-{
-    NEEDS_WORLD(world);
-    NEEDS(slice != NULL, PYBUF_NULL_POINTER);
-    NEEDS_BYTES(room, room_length);
-    NEEDS(length != NULL, PYBUF_NULL_POINTER);
-    ASKS(pybuf_proved_get_slice(&world->handle, exporter, slice));
-    return one_text(world, room, room_length, length);
-}
-
-pybuf_status pybuf_set(pybuf_world *world, pybuf_object object, int64_t index, pybuf_number item)
-{
-    NEEDS_WORLD(world);
-    return (pybuf_status)pybuf_proved_set(&world->handle, object, index, item.magnitude, item.negative);
-}
-
-pybuf_status pybuf_set_at(pybuf_world *world, pybuf_object view, const int64_t *indices, size_t count, pybuf_number item)
-{
-    NEEDS_WORLD(world);
-    NEEDS_COUNT(indices, count);
-    return (pybuf_status)pybuf_proved_set_at(&world->handle, view, numbers_at(indices), count, item.magnitude, item.negative);
-}
-
-pybuf_status pybuf_set_slice(pybuf_world *world, pybuf_object object, const pybuf_slice *slice, const void *bytes, size_t length)
-{
-    NEEDS_WORLD(world);
-    NEEDS(slice != NULL, PYBUF_NULL_POINTER);
-    NEEDS_BYTES(bytes, length);
-    return (pybuf_status)pybuf_proved_set_slice(&world->handle, object, slice, bytes_at(bytes), length);
-}
-
-pybuf_status pybuf_set_slice_of(pybuf_world *world, pybuf_object object, const pybuf_slice *slice, pybuf_object other)
-{
-    NEEDS_WORLD(world);
-    NEEDS(slice != NULL, PYBUF_NULL_POINTER);
-    return (pybuf_status)pybuf_proved_set_slice_of(&world->handle, object, slice, other);
-}
-
-pybuf_status pybuf_release(pybuf_world *world, pybuf_object view)
-{
-    NEEDS_WORLD(world);
-    return (pybuf_status)pybuf_proved_release(&world->handle, view);
-}
-
-pybuf_status pybuf_length(pybuf_world *world, pybuf_object object, size_t *length)
-{
-    NEEDS_WORLD(world);
-    NEEDS(length != NULL, PYBUF_NULL_POINTER);
-    pybuf_number found = {0, false};
-    ASKS(pybuf_proved_length(&world->handle, object));
-    ASKS(one_number(world, &found));
-    *length = (size_t)found.magnitude;
-    return PYBUF_OK;
-}
-
-pybuf_status pybuf_bytes(pybuf_world *world, pybuf_object object, void *room, size_t room_length, size_t *length)
-{
-    NEEDS_WORLD(world);
-    NEEDS_BYTES(room, room_length);
-    NEEDS(length != NULL, PYBUF_NULL_POINTER);
-    ASKS(pybuf_proved_bytes(&world->handle, object));
-    return one_text(world, room, room_length, length);
-}
-
-pybuf_status pybuf_items(pybuf_world *world, pybuf_object view, pybuf_number *room, size_t room_count, size_t *count)
-{
-    NEEDS_WORLD(world);
-    NEEDS_COUNT(room, room_count);
-    NEEDS(count != NULL, PYBUF_NULL_POINTER);
-    ASKS(pybuf_proved_items(&world->handle, view));
-    return all_numbers(world, room, room_count, count);
-}
-
-pybuf_status pybuf_property_number(pybuf_world *world, pybuf_object object, pybuf_property property, pybuf_number *number)
-{
-    NEEDS_WORLD(world);
-    NEEDS(number != NULL, PYBUF_NULL_POINTER);
-    ASKS(pybuf_proved_property(&world->handle, object, (uint32_t)property));
-    return one_number(world, number);
-}
-
-pybuf_status pybuf_property_numbers(pybuf_world *world, pybuf_object object, pybuf_property property, pybuf_number *room, size_t room_count, size_t *count)
-{
-    NEEDS_WORLD(world);
-    NEEDS_COUNT(room, room_count);
-    NEEDS(count != NULL, PYBUF_NULL_POINTER);
-    ASKS(pybuf_proved_property(&world->handle, object, (uint32_t)property));
-    return all_numbers(world, room, room_count, count);
-}
-
-pybuf_status pybuf_property_text(pybuf_world *world, pybuf_object object, pybuf_property property, char *room, size_t room_length, size_t *length)
-{
-    NEEDS_WORLD(world);
-    NEEDS_BYTES(room, room_length);
-    NEEDS(length != NULL, PYBUF_NULL_POINTER);
-    ASKS(pybuf_proved_property(&world->handle, object, (uint32_t)property));
-    return one_text(world, room, room_length, length);
-}
-
-pybuf_status pybuf_property_object(pybuf_world *world, pybuf_object object, pybuf_property property, pybuf_object *found)
-{
-    NEEDS_WORLD(world);
-    NEEDS(found != NULL, PYBUF_NULL_POINTER);
-    ASKS(pybuf_proved_property(&world->handle, object, (uint32_t)property));
-    return one_object(world, found);
-}
-
-pybuf_status pybuf_compare(pybuf_world *world, pybuf_object object, pybuf_operator op, const void *bytes, size_t length, pybuf_truth *truth)
-{
-    NEEDS_WORLD(world);
-    NEEDS_BYTES(bytes, length);
-    NEEDS(truth != NULL, PYBUF_NULL_POINTER);
-    ASKS(pybuf_proved_compare(&world->handle, object, (uint32_t)op, bytes_at(bytes), length));
-    return one_truth(world, truth);
-}
-
-pybuf_status pybuf_compare_with(pybuf_world *world, pybuf_object object, pybuf_operator op, pybuf_object other, pybuf_truth *truth)
-{
-    NEEDS_WORLD(world);
-    NEEDS(truth != NULL, PYBUF_NULL_POINTER);
-    ASKS(pybuf_proved_compare_with(&world->handle, object, (uint32_t)op, other));
-    return one_truth(world, truth);
-}
-
-pybuf_status pybuf_contains(pybuf_world *world, pybuf_object object, const void *bytes, size_t length, bool *truth)
-{
-    NEEDS_WORLD(world);
-    NEEDS_BYTES(bytes, length);
-    NEEDS(truth != NULL, PYBUF_NULL_POINTER);
-    ASKS(pybuf_proved_contains(&world->handle, object, bytes_at(bytes), length));
-    return one_flag(world, truth);
-}
-
-pybuf_status pybuf_contains_byte(pybuf_world *world, pybuf_object object, pybuf_number byte, bool *truth)
-{
-    NEEDS_WORLD(world);
-    NEEDS(truth != NULL, PYBUF_NULL_POINTER);
-    ASKS(pybuf_proved_contains_byte(&world->handle, object, byte.magnitude, byte.negative));
-    return one_flag(world, truth);
-}
-
-pybuf_status pybuf_shown(pybuf_world *world, pybuf_object object, char *room, size_t room_length, size_t *length)
-{
-    NEEDS_WORLD(world);
-    NEEDS_BYTES(room, room_length);
-    NEEDS(length != NULL, PYBUF_NULL_POINTER);
-    ASKS(pybuf_proved_shown(&world->handle, object));
-    return one_text(world, room, room_length, length);
-}
-
-pybuf_status pybuf_next(pybuf_world *world, pybuf_object iterator, bool *there, pybuf_number *item)
-{
-    NEEDS_WORLD(world);
-    NEEDS(there != NULL && item != NULL, PYBUF_NULL_POINTER);
     uint32_t kind = 0;
-    ASKS(pybuf_proved_next(&world->handle, iterator));
     ASKS(pybuf_proved_last_kind(&world->handle, &kind));
     *there = kind != STOP_KIND;
     return *there ? one_number(world, item) : PYBUF_OK;
 }
 
-pybuf_status pybuf_append(pybuf_world *world, pybuf_object array, pybuf_number byte)
-{
-    NEEDS_WORLD(world);
-    return (pybuf_status)pybuf_proved_append(&world->handle, array, byte.magnitude, byte.negative);
-}
+/* Each row is a call: its parameters behind the world, what of them is tested, what is asked of the proved library, and what is answered. */
+#define CALL(name, parameters, tests, asked, answer) \
+    pybuf_status pybuf_##name parameters             \
+    {                                                \
+        NEEDS_WORLD(world);                          \
+        tests;                                       \
+        ASKS(asked);                                 \
+        return (pybuf_status)(answer);               \
+    }
 
-pybuf_status pybuf_extend(pybuf_world *world, pybuf_object array, const void *bytes, size_t length)
-{
-    NEEDS_WORLD(world);
-    NEEDS_BYTES(bytes, length);
-    return (pybuf_status)pybuf_proved_extend(&world->handle, array, bytes_at(bytes), length);
-}
+#define OF(...) (pybuf_world *world, __VA_ARGS__)
+#define NONE (void)0
+#define POINTER(pointer) NEEDS((pointer) != NULL, PYBUF_NULL_POINTER)
+#define ROOM(room, room_length, length) NEEDS_BYTES(room, room_length); POINTER(length)
+#define ASK(name, ...) pybuf_proved_##name(&world->handle, __VA_ARGS__)
 
-pybuf_status pybuf_extend_by(pybuf_world *world, pybuf_object array, pybuf_object other)
-{
-    NEEDS_WORLD(world);
-    return (pybuf_status)pybuf_proved_extend_by(&world->handle, array, other);
-}
+CALL(new, OF(pybuf_kind kind, const void *bytes, size_t length, pybuf_object *object), NEEDS_BYTES(bytes, length); POINTER(object),
+    ASK(new, (uint32_t)kind, bytes_at(bytes), length), one_object(world, object))
+CALL(view, OF(pybuf_object object, pybuf_object *view), POINTER(view), ASK(view, object), one_object(world, view))
+CALL(to_readonly, OF(pybuf_object view, pybuf_object *made), POINTER(made), ASK(to_readonly, view), one_object(world, made))
+CALL(to_contiguous, OF(pybuf_object view, pybuf_object *vector, pybuf_object *made), POINTER(vector); POINTER(made),
+    ASK(to_contiguous, view), two_objects(world, vector, made))
+CALL(cast, OF(pybuf_object view, const char *format, const int64_t *shape, size_t dimensions, pybuf_object *made),
+    POINTER(format); POINTER(made); NEEDS_COUNT(shape, shape ? dimensions : 0),
+    shape ? ASK(cast_to_shape, view, bytes_at(format), strlen(format), shape, dimensions) : ASK(cast, view, bytes_at(format), strlen(format)),
+    one_object(world, made))
+CALL(release, OF(pybuf_object view), NONE, ASK(release, view), PYBUF_OK)
+CALL(iterate, OF(pybuf_object object, pybuf_object *iterator), POINTER(iterator), ASK(iterate, object), one_object(world, iterator))
+CALL(next, OF(pybuf_object iterator, bool *there, pybuf_number *item), POINTER(there); POINTER(item),
+    ASK(next, iterator), one_item(world, there, item))
 
-pybuf_status pybuf_insert(pybuf_world *world, pybuf_object array, int64_t index, pybuf_number byte)
-{
-    NEEDS_WORLD(world);
-    return (pybuf_status)pybuf_proved_insert(&world->handle, array, index, byte.magnitude, byte.negative);
-}
+CALL(get_at, OF(pybuf_object view, const int64_t *indices, size_t count, pybuf_number *item), NEEDS_COUNT(indices, count); POINTER(item),
+    ASK(get_at, view, numbers_at(indices), count), one_number(world, item))
+CALL(get_item_bytes, OF(pybuf_object view, int64_t index, void *room, size_t room_length, size_t *length), ROOM(room, room_length, length),
+    ASK(get, view, index), one_text(world, room, room_length, length))
+CALL(get_slice, OF(pybuf_object view, const pybuf_slice *slice, pybuf_object *made), POINTER(slice); POINTER(made),
+    ASK(get_slice, view, slice), one_object(world, made))
+CALL(get_slice_bytes, OF(pybuf_object exporter, const pybuf_slice *slice, void *room, size_t room_length, size_t *length),
+    POINTER(slice); ROOM(room, room_length, length), ASK(get_slice, exporter, slice), one_text(world, room, room_length, length))
+CALL(set, OF(pybuf_object object, int64_t index, pybuf_number item), NONE, ASK(set, object, index, item.magnitude, item.negative), PYBUF_OK)
+CALL(set_at, OF(pybuf_object view, const int64_t *indices, size_t count, pybuf_number item), NEEDS_COUNT(indices, count),
+    ASK(set_at, view, numbers_at(indices), count, item.magnitude, item.negative), PYBUF_OK)
+CALL(set_slice, OF(pybuf_object object, const pybuf_slice *slice, const void *bytes, size_t length), POINTER(slice); NEEDS_BYTES(bytes, length),
+    ASK(set_slice, object, slice, bytes_at(bytes), length), PYBUF_OK)
+CALL(set_slice_of, OF(pybuf_object object, const pybuf_slice *slice, pybuf_object other), POINTER(slice),
+    ASK(set_slice_of, object, slice, other), PYBUF_OK)
 
-pybuf_status pybuf_pop(pybuf_world *world, pybuf_object array, int64_t index, pybuf_number *byte)
-{
-    NEEDS_WORLD(world);
-    NEEDS(byte != NULL, PYBUF_NULL_POINTER);
-    ASKS(pybuf_proved_pop(&world->handle, array, index));
-    return one_number(world, byte);
-}
+CALL(length, OF(pybuf_object object, size_t *length), POINTER(length), ASK(length, object), one_size(world, length))
+CALL(bytes, OF(pybuf_object object, void *room, size_t room_length, size_t *length), ROOM(room, room_length, length),
+    ASK(bytes, object), one_text(world, room, room_length, length))
+CALL(items, OF(pybuf_object view, pybuf_number *room, size_t room_count, size_t *count), NEEDS_COUNT(room, room_count); POINTER(count),
+    ASK(items, view), all_numbers(world, room, room_count, count))
+CALL(property_number, OF(pybuf_object object, pybuf_property property, pybuf_number *number), POINTER(number),
+    ASK(property, object, (uint32_t)property), one_number(world, number))
+CALL(property_numbers, OF(pybuf_object object, pybuf_property property, pybuf_number *room, size_t room_count, size_t *count),
+    NEEDS_COUNT(room, room_count); POINTER(count), ASK(property, object, (uint32_t)property), all_numbers(world, room, room_count, count))
+CALL(property_text, OF(pybuf_object object, pybuf_property property, char *room, size_t room_length, size_t *length),
+    ROOM(room, room_length, length), ASK(property, object, (uint32_t)property), one_text(world, room, room_length, length))
+CALL(property_object, OF(pybuf_object object, pybuf_property property, pybuf_object *found), POINTER(found),
+    ASK(property, object, (uint32_t)property), one_object(world, found))
+CALL(compare, OF(pybuf_object object, pybuf_operator op, const void *bytes, size_t length, pybuf_truth *truth),
+    NEEDS_BYTES(bytes, length); POINTER(truth), ASK(compare, object, (uint32_t)op, bytes_at(bytes), length), one_truth(world, truth))
+CALL(compare_with, OF(pybuf_object object, pybuf_operator op, pybuf_object other, pybuf_truth *truth), POINTER(truth),
+    ASK(compare_with, object, (uint32_t)op, other), one_truth(world, truth))
+CALL(contains, OF(pybuf_object object, const void *bytes, size_t length, bool *truth), NEEDS_BYTES(bytes, length); POINTER(truth),
+    ASK(contains, object, bytes_at(bytes), length), one_flag(world, truth))
+CALL(contains_byte, OF(pybuf_object object, pybuf_number byte, bool *truth), POINTER(truth),
+    ASK(contains_byte, object, byte.magnitude, byte.negative), one_flag(world, truth))
+CALL(shown, OF(pybuf_object object, char *room, size_t room_length, size_t *length), ROOM(room, room_length, length),
+    ASK(shown, object), one_text(world, room, room_length, length))
 
-pybuf_status pybuf_pop_last(pybuf_world *world, pybuf_object array, pybuf_number *byte)
-{
-    NEEDS_WORLD(world);
-    NEEDS(byte != NULL, PYBUF_NULL_POINTER);
-    ASKS(pybuf_proved_pop_last(&world->handle, array));
-    return one_number(world, byte);
-}
+CALL(append, OF(pybuf_object array, pybuf_number byte), NONE, ASK(append, array, byte.magnitude, byte.negative), PYBUF_OK)
+CALL(extend, OF(pybuf_object array, const void *bytes, size_t length), NEEDS_BYTES(bytes, length),
+    ASK(extend, array, bytes_at(bytes), length), PYBUF_OK)
+CALL(extend_by, OF(pybuf_object array, pybuf_object other), NONE, ASK(extend_by, array, other), PYBUF_OK)
+CALL(insert, OF(pybuf_object array, int64_t index, pybuf_number byte), NONE, ASK(insert, array, index, byte.magnitude, byte.negative), PYBUF_OK)
+CALL(pop, OF(pybuf_object array, int64_t index, pybuf_number *byte), POINTER(byte), ASK(pop, array, index), one_number(world, byte))
+CALL(pop_last, OF(pybuf_object array, pybuf_number *byte), POINTER(byte), ASK(pop_last, array), one_number(world, byte))
+CALL(remove, OF(pybuf_object array, pybuf_number byte), NONE, ASK(remove, array, byte.magnitude, byte.negative), PYBUF_OK)
+CALL(clear, OF(pybuf_object array), NONE, ASK(clear, array), PYBUF_OK)
+CALL(reverse, OF(pybuf_object array), NONE, ASK(reverse, array), PYBUF_OK)
+CALL(delete, OF(pybuf_object array, int64_t index), NONE, ASK(delete, array, index), PYBUF_OK)
+CALL(delete_slice, OF(pybuf_object array, const pybuf_slice *slice), POINTER(slice), ASK(delete_slice, array, slice), PYBUF_OK)
+CALL(repeat, OF(pybuf_object array, int64_t count), NONE, ASK(repeat, array, count), PYBUF_OK)
+CALL(copy, OF(pybuf_object array, pybuf_object *made), POINTER(made), ASK(copy, array), one_object(world, made))
+CALL(take, OF(pybuf_object vector, void *room, size_t room_length, size_t *length), ROOM(room, room_length, length),
+    ASK(take, vector), one_text(world, room, room_length, length))
 
-pybuf_status pybuf_remove(pybuf_world *world, pybuf_object array, pybuf_number byte)
-{
-    NEEDS_WORLD(world);
-    return (pybuf_status)pybuf_proved_remove(&world->handle, array, byte.magnitude, byte.negative);
-}
+/* The export of the first tells the number itself, and the second asks nothing. */
 
-pybuf_status pybuf_clear(pybuf_world *world, pybuf_object array)
+pybuf_status pybuf_get(pybuf_world *world, pybuf_object object, int64_t index, pybuf_number *item)
 {
+    pybuf_number found = {0, false};
     NEEDS_WORLD(world);
-    return (pybuf_status)pybuf_proved_clear(&world->handle, array);
-}
-
-pybuf_status pybuf_reverse(pybuf_world *world, pybuf_object array)
-{
-    NEEDS_WORLD(world);
-    return (pybuf_status)pybuf_proved_reverse(&world->handle, array);
-}
-
-pybuf_status pybuf_delete(pybuf_world *world, pybuf_object array, int64_t index)
-{
-    NEEDS_WORLD(world);
-    return (pybuf_status)pybuf_proved_delete(&world->handle, array, index);
-}
-
-pybuf_status pybuf_delete_slice(pybuf_world *world, pybuf_object array, const pybuf_slice *slice)
-{
-    NEEDS_WORLD(world);
-    NEEDS(slice != NULL, PYBUF_NULL_POINTER);
-    return (pybuf_status)pybuf_proved_delete_slice(&world->handle, array, slice);
-}
-
-pybuf_status pybuf_repeat(pybuf_world *world, pybuf_object array, int64_t count)
-{
-    NEEDS_WORLD(world);
-    return (pybuf_status)pybuf_proved_repeat(&world->handle, array, count);
-}
-
-pybuf_status pybuf_take(pybuf_world *world, pybuf_object vector, void *room, size_t room_length, size_t *length)
-{
-    NEEDS_WORLD(world);
-    NEEDS_BYTES(room, room_length);
-    NEEDS(length != NULL, PYBUF_NULL_POINTER);
-    ASKS(pybuf_proved_take(&world->handle, vector));
-    return one_text(world, room, room_length, length);
+    POINTER(item);
+    ASKS(pybuf_proved_get_number(&world->handle, object, index, &found.magnitude, &found.negative));
+    *item = found;
+    return PYBUF_OK;
 }
 
 pybuf_status pybuf_last_bytes(pybuf_world *world, void *room, size_t room_length, size_t *length)
 {
     NEEDS_WORLD(world);
-    NEEDS_BYTES(room, room_length);
-    NEEDS(length != NULL, PYBUF_NULL_POINTER);
+    ROOM(room, room_length, length);
     return one_text(world, room, room_length, length);
 }
 
