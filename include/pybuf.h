@@ -12,7 +12,11 @@
  *   - Rooms and results lie apart from each other, and from the bytes that are passed in.
  *
  * What is tested, and answered by a status before anything is read: a null pointer, a pointer that was handed out for
- * something else, and a length past PTRDIFF_MAX. A length of 0 may stand beside a null pointer.
+ * something else, and a length past PTRDIFF_MAX. A length of 0 may stand beside a null pointer, so a null room asks how long the
+ * room has to be.
+ *
+ * No world or format is const. Each call takes it out of its handle and puts it back, so two calls may not run at once, even if
+ * both only read.
  */
 #ifndef PYBUF_H
 #define PYBUF_H
@@ -79,6 +83,11 @@ pybuf_status pybuf_world_run(pybuf_world *world, const char *text, size_t length
 /* Copies the reply of this number, from 0, to the room, with no line feed and no zero behind it. *length is how long it is, also
  * where the room is too small; the room is then as before. PYBUF_NOTHING: so many replies aren't kept. */
 pybuf_status pybuf_world_reply(pybuf_world *world, size_t index, char *room, size_t room_length, size_t *length);
+
+/* Copies to the room, with no zero behind it, a sentence on the last call of this world that answered anything but PYBUF_OK: its name, its
+ * status and what that says, as "pybuf_append: BufferError: a view is unreleased, so the number of bytes can't change". *length is how long
+ * it is, also where the room is too small. PYBUF_NOTHING: there was no such call. */
+pybuf_status pybuf_last_cause(pybuf_world *world, char *room, size_t room_length, size_t *length);
 
 /* ---- objects, by numbers ---- */
 
@@ -309,6 +318,9 @@ pybuf_status pybuf_format_unpack(pybuf_format *format, const void *bytes, size_t
 /* Copies to the room the bytes of the value of this number, from 0, that this format unpacked last. *length is how many they are,
  * also where the room is too small. PYBUF_NOTHING: there is no such value, it isn't bytes, or the format has packed since. */
 pybuf_status pybuf_format_value_bytes(pybuf_format *format, size_t index, void *room, size_t room_length, size_t *length);
+
+/* pybuf_last_cause, of this format. */
+pybuf_status pybuf_format_last_cause(pybuf_format *format, char *room, size_t room_length, size_t *length);
 
 #ifdef __cplusplus
 }

@@ -4,6 +4,7 @@
  * A call for objects asks one command, whose reply the world keeps, and then reads the reply. */
 #include "exports.h"
 
+#include <stdio.h>
 #include <stdlib.h>
 #include <string.h>
 
@@ -11,14 +12,19 @@
 #define A_WORLD UINT64_C(0x646c726f77667562)
 #define A_FORMAT UINT64_C(0x74616d726f667562)
 
+/* The last call that answered anything but PYBUF_OK, and what it answered, stand beside the handle. */
 struct pybuf_world {
     uint64_t mark;
     proved_handle handle;
+    const char *call;
+    pybuf_status answered;
 };
 
 struct pybuf_format {
     uint64_t mark;
     proved_handle handle;
+    const char *call;
+    pybuf_status answered;
 };
 
 /* A slice of no bytes points to this. */
@@ -30,22 +36,50 @@ static uint8_t no_bytes[1];
             return (status);     \
     } while (0)
 
-#define NEEDS_WORLD(world)                                      \
-    do {                                                        \
-        NEEDS((world) != NULL, PYBUF_NULL_POINTER);             \
-        NEEDS((world)->mark == A_WORLD, PYBUF_NO_WORLD);        \
-    } while (0)
+/* What a call needs, as the status that it answers if that is missing. */
 
-#define NEEDS_FORMAT(format)                                    \
-    do {                                                        \
-        NEEDS((format) != NULL, PYBUF_NULL_POINTER);            \
-        NEEDS((format)->mark == A_FORMAT, PYBUF_NO_FORMAT);     \
-    } while (0)
+static pybuf_status a_pointer(const void *pointer)
+{
+    return pointer ? PYBUF_OK : PYBUF_NULL_POINTER;
+}
 
-#define NEEDS_BYTES(pointer, length)                                    \
-    do {                                                                \
-        NEEDS((length) <= (size_t)PTRDIFF_MAX, PYBUF_TOO_LONG);         \
-        NEEDS((pointer) != NULL || (length) == 0, PYBUF_NULL_POINTER);  \
+static pybuf_status a_world(const pybuf_world *world)
+{
+    return !world ? PYBUF_NULL_POINTER : world->mark == A_WORLD ? PYBUF_OK : PYBUF_NO_WORLD;
+}
+
+static pybuf_status a_format(const pybuf_format *format)
+{
+    return !format ? PYBUF_NULL_POINTER : format->mark == A_FORMAT ? PYBUF_OK : PYBUF_NO_FORMAT;
+}
+
+/* so many entries of this size, from a pointer on */
+static pybuf_status entries(const void *pointer, size_t count, size_t size)
+{
+    return count > (size_t)PTRDIFF_MAX / size ? PYBUF_TOO_LONG : pointer || count == 0 ? PYBUF_OK : PYBUF_NULL_POINTER;
+}
+
+static pybuf_status some_bytes(const void *pointer, size_t length)
+{
+    return entries(pointer, length, 1);
+}
+
+static pybuf_status both(pybuf_status first, pybuf_status second)
+{
+    return first ? first : second;
+}
+
+static pybuf_status a_room(const void *room, size_t room_length, const size_t *length)
+{
+    return both(some_bytes(room, room_length), a_pointer(length));
+}
+
+/* Ends the function if a call in it answers anything but PYBUF_OK. */
+#define ASKS(call)                                     \
+    do {                                               \
+        uint32_t status = (call);                      \
+        if (status != PYBUF_OK)                        \
+            return (pybuf_status)status;               \
     } while (0)
 
 static const uint8_t *bytes_at(const void *pointer)
@@ -58,30 +92,68 @@ static uint8_t *room_at(void *pointer)
     return pointer ? (uint8_t *)pointer : no_bytes;
 }
 
+/* Each status by its name, and by what it says. */
+static const struct {
+    const char *name, *cause;
+} statuses[] = {
+    [PYBUF_OK] = {"ok", "it is done"},
+    [PYBUF_NO_MEMORY] = {"no memory", "memory ran out"},
+    [PYBUF_NO_WORLD] = {"no world", "the pointer is no world"},
+    [PYBUF_TOO_SMALL] = {"room too small", "the room is too small, and the length that is needed was written"},
+    [PYBUF_BAD_LINE] = {"no command", "a line is no command"},
+    [PYBUF_NOTHING] = {"no such reply", "there is no such reply, or it is of another kind"},
+    [PYBUF_BAD_ARGUMENT] = {"bad argument", "a number stands for nothing, or a text isn't UTF-8"},
+    [PYBUF_NULL_POINTER] = {"null pointer", "a pointer that is needed is null"},
+    [PYBUF_TOO_LONG] = {"too long", "a length is past PTRDIFF_MAX"},
+    [PYBUF_NO_FORMAT] = {"no format", "the pointer is no format"},
+    [PYBUF_INDEX_ERROR] = {"IndexError", "an index is out of range, or there is nothing to take"},
+    [PYBUF_VALUE_ERROR] = {"ValueError", "a value is out of range or isn't there, a number of bytes doesn't fit, or the view is released"},
+    [PYBUF_TYPE_ERROR] = {"TypeError", "a value or an object is of a type that the call doesn't take, or may only be read"},
+    [PYBUF_BUFFER_ERROR] = {"BufferError", "a view is unreleased, so the number of bytes can't change"},
+    [PYBUF_STRUCT_ERROR] = {"StructError", "the format is none, or the values or bytes don't fit it"},
+    [PYBUF_OVERFLOW_ERROR] = {"OverflowError", "a number is past the range that the call takes"},
+    [PYBUF_NOT_IMPLEMENTED_ERROR] = {"NotImplementedError", "there is no such call for a view of this format or shape"},
+    [PYBUF_UNKNOWN_NAME] = {"UnknownName", "the object was never given, or is of a kind that has no such call"},
+};
+
 const char *pybuf_status_name(pybuf_status status)
 {
-    switch (status) {
-    case PYBUF_OK: return "ok";
-    case PYBUF_NO_MEMORY: return "no memory";
-    case PYBUF_NO_WORLD: return "no world";
-    case PYBUF_TOO_SMALL: return "room too small";
-    case PYBUF_BAD_LINE: return "no command";
-    case PYBUF_NOTHING: return "no such reply";
-    case PYBUF_BAD_ARGUMENT: return "bad argument";
-    case PYBUF_NULL_POINTER: return "null pointer";
-    case PYBUF_TOO_LONG: return "too long";
-    case PYBUF_NO_FORMAT: return "no format";
-    case PYBUF_INDEX_ERROR: return "IndexError";
-    case PYBUF_VALUE_ERROR: return "ValueError";
-    case PYBUF_TYPE_ERROR: return "TypeError";
-    case PYBUF_BUFFER_ERROR: return "BufferError";
-    case PYBUF_STRUCT_ERROR: return "StructError";
-    case PYBUF_OVERFLOW_ERROR: return "OverflowError";
-    case PYBUF_NOT_IMPLEMENTED_ERROR: return "NotImplementedError";
-    case PYBUF_UNKNOWN_NAME: return "UnknownName";
-    }
-    return "no status";
+    bool there = (size_t)status < sizeof statuses / sizeof *statuses && statuses[status].name;
+    return there ? statuses[status].name : "no status";
 }
+
+/* Copies the sentence on a call and its status to the room. */
+static pybuf_status hand_cause(const char *call, pybuf_status answered, char *room, size_t room_length, size_t *length)
+{
+    char text[192];
+    if (answered == PYBUF_OK)
+        return PYBUF_NOTHING;
+    *length = (size_t)snprintf(text, sizeof text, "%s: %s: %s", call, statuses[answered].name, statuses[answered].cause);
+    if (*length > room_length)
+        return PYBUF_TOO_SMALL;
+    memcpy(room_at(room), text, *length);
+    return PYBUF_OK;
+}
+
+/* A call of a world or a format: its parameters, what of them is tested, what is asked of the proved library, and what is answered. Each of
+ * the three is a status, and the first that isn't PYBUF_OK ends the call. It is noted where the handle is. */
+#define CALL_OF(it, is_it, name, parameters, tests, asked, answer) \
+    pybuf_status name parameters                                   \
+    {                                                              \
+        pybuf_status status = is_it(it);                           \
+        if (status != PYBUF_OK)                                    \
+            return status;                                         \
+        status = (tests);                                          \
+        if (status == PYBUF_OK)                                    \
+            status = (pybuf_status)(asked);                        \
+        if (status == PYBUF_OK)                                    \
+            status = (answer);                                     \
+        if (status != PYBUF_OK) {                                  \
+            (it)->call = #name;                                    \
+            (it)->answered = status;                               \
+        }                                                          \
+        return status;                                             \
+    }
 
 const char *pybuf_version(void)
 {
@@ -107,20 +179,18 @@ pybuf_status pybuf_world_new(pybuf_world **world)
 pybuf_status pybuf_world_free(pybuf_world *world)
 {
     NEEDS(world != NULL, PYBUF_OK);
-    NEEDS_WORLD(world);
+    ASKS(a_world(world));
     pybuf_proved_world_free(&world->handle);
     world->mark = 0;
     free(world);
     return PYBUF_OK;
 }
 
-pybuf_status pybuf_world_run(pybuf_world *world, const char *text, size_t length, size_t *count, uint64_t *line)
+static pybuf_status run(proved_handle *handle, const char *text, size_t length, size_t *count, uint64_t *line)
 {
     size_t counted = 0;
     uint64_t wrong = 0;
-    NEEDS_WORLD(world);
-    NEEDS_BYTES(text, length);
-    pybuf_status status = (pybuf_status)pybuf_proved_world_run(&world->handle, bytes_at(text), length, &counted, &wrong);
+    pybuf_status status = (pybuf_status)pybuf_proved_world_run(handle, bytes_at(text), length, &counted, &wrong);
     if (count)
         *count = counted;
     if (line && status == PYBUF_BAD_LINE)
@@ -128,12 +198,20 @@ pybuf_status pybuf_world_run(pybuf_world *world, const char *text, size_t length
     return status;
 }
 
-pybuf_status pybuf_world_reply(pybuf_world *world, size_t index, char *room, size_t room_length, size_t *length)
+#define OF(...) (pybuf_world *world, __VA_ARGS__)
+#define CALL(name, parameters, tests, asked, answer) CALL_OF(world, a_world, pybuf_##name, parameters, tests, asked, answer)
+#define ASK(name, ...) pybuf_proved_##name(&world->handle, __VA_ARGS__)
+
+CALL(world_run, OF(const char *text, size_t length, size_t *count, uint64_t *line), some_bytes(text, length),
+    run(&world->handle, text, length, count, line), PYBUF_OK)
+CALL(world_reply, OF(size_t index, char *room, size_t room_length, size_t *length), a_room(room, room_length, length),
+    ASK(world_reply, index, room_at(room), room_length, length), PYBUF_OK)
+
+pybuf_status pybuf_last_cause(pybuf_world *world, char *room, size_t room_length, size_t *length)
 {
-    NEEDS_WORLD(world);
-    NEEDS_BYTES(room, room_length);
-    NEEDS(length != NULL, PYBUF_NULL_POINTER);
-    return (pybuf_status)pybuf_proved_world_reply(&world->handle, index, room_at(room), room_length, length);
+    ASKS(a_world(world));
+    ASKS(a_room(room, room_length, length));
+    return hand_cause(world->call, world->answered, room, room_length, length);
 }
 
 /* ---- objects ---- */
@@ -146,26 +224,17 @@ static const int64_t *numbers_at(const int64_t *pointer)
     return pointer ? pointer : no_numbers;
 }
 
-#define NEEDS_COUNT(pointer, count)                                                              \
-    do {                                                                                         \
-        NEEDS((count) <= (size_t)PTRDIFF_MAX / sizeof *(pointer), PYBUF_TOO_LONG);               \
-        NEEDS((pointer) != NULL || (count) == 0, PYBUF_NULL_POINTER);                            \
-    } while (0)
+/* Each of these reads the last reply to the places that a call was passed. */
 
-/* Ends the call if the command wasn't carried out. */
-#define ASKS(call)                                     \
-    do {                                               \
-        uint32_t status = (call);                      \
-        if (status != PYBUF_OK)                        \
-            return (pybuf_status)status;               \
-    } while (0)
-
-/* Each of these reads the last reply, after a call has tested its pointers. */
+static pybuf_status two_objects(pybuf_world *world, pybuf_object *exporter, pybuf_object *view)
+{
+    return (pybuf_status)pybuf_proved_last_objects(&world->handle, exporter, view);
+}
 
 static pybuf_status one_object(pybuf_world *world, pybuf_object *object)
 {
-    uint64_t exporter = 0, view = 0;
-    ASKS(pybuf_proved_last_objects(&world->handle, &exporter, &view));
+    pybuf_object exporter = 0, view = 0;
+    ASKS(two_objects(world, &exporter, &view));
     *object = view;
     return PYBUF_OK;
 }
@@ -175,6 +244,14 @@ static pybuf_status one_number(pybuf_world *world, pybuf_number *number)
     pybuf_number found = {0, false};
     ASKS(pybuf_proved_last_number(&world->handle, &found.magnitude, &found.negative));
     *number = found;
+    return PYBUF_OK;
+}
+
+static pybuf_status one_size(pybuf_world *world, size_t *size)
+{
+    pybuf_number found = {0, false};
+    ASKS(one_number(world, &found));
+    *size = (size_t)found.magnitude;
     return PYBUF_OK;
 }
 
@@ -219,384 +296,124 @@ static pybuf_status one_truth(pybuf_world *world, pybuf_truth *truth)
     return PYBUF_OK;
 }
 
-pybuf_status pybuf_new(pybuf_world *world, pybuf_kind kind, const void *bytes, size_t length, pybuf_object *object)
+static pybuf_status one_item(pybuf_world *world, bool *there, pybuf_number *item)
 {
-    NEEDS_WORLD(world);
-    NEEDS_BYTES(bytes, length);
-    NEEDS(object != NULL, PYBUF_NULL_POINTER);
-    ASKS(pybuf_proved_new(&world->handle, (uint32_t)kind, bytes_at(bytes), length));
-    return one_object(world, object);
-}
-
-pybuf_status pybuf_view(pybuf_world *world, pybuf_object object, pybuf_object *view)
-{
-    NEEDS_WORLD(world);
-    NEEDS(view != NULL, PYBUF_NULL_POINTER);
-    ASKS(pybuf_proved_view(&world->handle, object));
-    return one_object(world, view);
-}
-
-pybuf_status pybuf_to_readonly(pybuf_world *world, pybuf_object view, pybuf_object *made)
-{
-    NEEDS_WORLD(world);
-    NEEDS(made != NULL, PYBUF_NULL_POINTER);
-    ASKS(pybuf_proved_to_readonly(&world->handle, view));
-    return one_object(world, made);
-}
-
-pybuf_status pybuf_iterate(pybuf_world *world, pybuf_object object, pybuf_object *iterator)
-{
-    NEEDS_WORLD(world);
-    NEEDS(iterator != NULL, PYBUF_NULL_POINTER);
-    ASKS(pybuf_proved_iterate(&world->handle, object));
-    return one_object(world, iterator);
-}
-
-pybuf_status pybuf_copy(pybuf_world *world, pybuf_object array, pybuf_object *made)
-{
-    NEEDS_WORLD(world);
-    NEEDS(made != NULL, PYBUF_NULL_POINTER);
-    ASKS(pybuf_proved_copy(&world->handle, array));
-    return one_object(world, made);
-}
-
-pybuf_status pybuf_to_contiguous(pybuf_world *world, pybuf_object view, pybuf_object *vector, pybuf_object *made)
-{
-    NEEDS_WORLD(world);
-    NEEDS(vector != NULL && made != NULL, PYBUF_NULL_POINTER);
-    ASKS(pybuf_proved_to_contiguous(&world->handle, view));
-    return (pybuf_status)pybuf_proved_last_objects(&world->handle, vector, made);
-}
-
-pybuf_status pybuf_cast(pybuf_world *world, pybuf_object view, const char *format, const int64_t *shape, size_t dimensions, pybuf_object *made)
-{
-    NEEDS_WORLD(world);
-    NEEDS(format != NULL && made != NULL, PYBUF_NULL_POINTER);
-    NEEDS_COUNT(shape, shape ? dimensions : 0);
-    size_t length = strlen(format);
-    if (shape)
-        ASKS(pybuf_proved_cast_to_shape(&world->handle, view, bytes_at(format), length, shape, dimensions));
-    else
-        ASKS(pybuf_proved_cast(&world->handle, view, bytes_at(format), length));
-    return one_object(world, made);
-}
-
-pybuf_status pybuf_lend(pybuf_world *world, pybuf_object view, const uint8_t **at, size_t *length)
-{
-    proved_lent lent = {no_bytes, 0};
-    NEEDS_WORLD(world);
-    NEEDS(at != NULL && length != NULL, PYBUF_NULL_POINTER);
-    uint32_t status = pybuf_proved_lend(&world->handle, view, &lent);
-    NEEDS(status == PYBUF_OK, (pybuf_status)status);
-    *at = lent.at;
-    *length = lent.length;
-    return PYBUF_OK;
-}
-
-pybuf_status pybuf_lend_to_write(pybuf_world *world, pybuf_object view, uint8_t **at, size_t *length)
-{
-    proved_lent_to_write lent = {no_bytes, 0};
-    NEEDS_WORLD(world);
-    NEEDS(at != NULL && length != NULL, PYBUF_NULL_POINTER);
-    uint32_t status = pybuf_proved_lend_to_write(&world->handle, view, &lent);
-    NEEDS(status == PYBUF_OK, (pybuf_status)status);
-    *at = lent.at;
-    *length = lent.length;
-    return PYBUF_OK;
-}
-
-pybuf_status pybuf_get(pybuf_world *world, pybuf_object object, int64_t index, pybuf_number *item)
-{
-    NEEDS_WORLD(world);
-    NEEDS(item != NULL, PYBUF_NULL_POINTER);
-    pybuf_number found = {0, false};
-    ASKS(pybuf_proved_get_number(&world->handle, object, index, &found.magnitude, &found.negative));
-    *item = found;
-    return PYBUF_OK;
-}
-
-pybuf_status pybuf_get_at(pybuf_world *world, pybuf_object view, const int64_t *indices, size_t count, pybuf_number *item)
-{
-    NEEDS_WORLD(world);
-    NEEDS_COUNT(indices, count);
-    NEEDS(item != NULL, PYBUF_NULL_POINTER);
-    ASKS(pybuf_proved_get_at(&world->handle, view, numbers_at(indices), count));
-    return one_number(world, item);
-}
-
-pybuf_status pybuf_get_item_bytes(pybuf_world *world, pybuf_object view, int64_t index, void *room, size_t room_length, size_t *length)
-{
-    NEEDS_WORLD(world);
-    NEEDS_BYTES(room, room_length);
-    NEEDS(length != NULL, PYBUF_NULL_POINTER);
-    ASKS(pybuf_proved_get(&world->handle, view, index));
-    return one_text(world, room, room_length, length);
-}
-
-pybuf_status pybuf_get_slice(pybuf_world *world, pybuf_object view, const pybuf_slice *slice, pybuf_object *made)
-{
-    NEEDS_WORLD(world);
-    NEEDS(slice != NULL, PYBUF_NULL_POINTER);
-    NEEDS(made != NULL, PYBUF_NULL_POINTER);
-    ASKS(pybuf_proved_get_slice(&world->handle, view, slice));
-    return one_object(world, made);
-}
-
-pybuf_status pybuf_get_slice_bytes(pybuf_world *world, pybuf_object exporter, const pybuf_slice *slice, void *room, size_t room_length, size_t *length)
-{
-    NEEDS_WORLD(world);
-    NEEDS(slice != NULL, PYBUF_NULL_POINTER);
-    NEEDS_BYTES(room, room_length);
-    NEEDS(length != NULL, PYBUF_NULL_POINTER);
-    ASKS(pybuf_proved_get_slice(&world->handle, exporter, slice));
-    return one_text(world, room, room_length, length);
-}
-
-pybuf_status pybuf_set(pybuf_world *world, pybuf_object object, int64_t index, pybuf_number item)
-{
-    NEEDS_WORLD(world);
-    return (pybuf_status)pybuf_proved_set(&world->handle, object, index, item.magnitude, item.negative);
-}
-
-pybuf_status pybuf_set_at(pybuf_world *world, pybuf_object view, const int64_t *indices, size_t count, pybuf_number item)
-{
-    NEEDS_WORLD(world);
-    NEEDS_COUNT(indices, count);
-    return (pybuf_status)pybuf_proved_set_at(&world->handle, view, numbers_at(indices), count, item.magnitude, item.negative);
-}
-
-pybuf_status pybuf_set_slice(pybuf_world *world, pybuf_object object, const pybuf_slice *slice, const void *bytes, size_t length)
-{
-    NEEDS_WORLD(world);
-    NEEDS(slice != NULL, PYBUF_NULL_POINTER);
-    NEEDS_BYTES(bytes, length);
-    return (pybuf_status)pybuf_proved_set_slice(&world->handle, object, slice, bytes_at(bytes), length);
-}
-
-pybuf_status pybuf_set_slice_of(pybuf_world *world, pybuf_object object, const pybuf_slice *slice, pybuf_object other)
-{
-    NEEDS_WORLD(world);
-    NEEDS(slice != NULL, PYBUF_NULL_POINTER);
-    return (pybuf_status)pybuf_proved_set_slice_of(&world->handle, object, slice, other);
-}
-
-pybuf_status pybuf_release(pybuf_world *world, pybuf_object view)
-{
-    NEEDS_WORLD(world);
-    return (pybuf_status)pybuf_proved_release(&world->handle, view);
-}
-
-pybuf_status pybuf_length(pybuf_world *world, pybuf_object object, size_t *length)
-{
-    NEEDS_WORLD(world);
-    NEEDS(length != NULL, PYBUF_NULL_POINTER);
-    pybuf_number found = {0, false};
-    ASKS(pybuf_proved_length(&world->handle, object));
-    ASKS(one_number(world, &found));
-    *length = (size_t)found.magnitude;
-    return PYBUF_OK;
-}
-
-pybuf_status pybuf_bytes(pybuf_world *world, pybuf_object object, void *room, size_t room_length, size_t *length)
-{
-    NEEDS_WORLD(world);
-    NEEDS_BYTES(room, room_length);
-    NEEDS(length != NULL, PYBUF_NULL_POINTER);
-    ASKS(pybuf_proved_bytes(&world->handle, object));
-    return one_text(world, room, room_length, length);
-}
-
-pybuf_status pybuf_items(pybuf_world *world, pybuf_object view, pybuf_number *room, size_t room_count, size_t *count)
-{
-    NEEDS_WORLD(world);
-    NEEDS_COUNT(room, room_count);
-    NEEDS(count != NULL, PYBUF_NULL_POINTER);
-    ASKS(pybuf_proved_items(&world->handle, view));
-    return all_numbers(world, room, room_count, count);
-}
-
-pybuf_status pybuf_property_number(pybuf_world *world, pybuf_object object, pybuf_property property, pybuf_number *number)
-{
-    NEEDS_WORLD(world);
-    NEEDS(number != NULL, PYBUF_NULL_POINTER);
-    ASKS(pybuf_proved_property(&world->handle, object, (uint32_t)property));
-    return one_number(world, number);
-}
-
-pybuf_status pybuf_property_numbers(pybuf_world *world, pybuf_object object, pybuf_property property, pybuf_number *room, size_t room_count, size_t *count)
-{
-    NEEDS_WORLD(world);
-    NEEDS_COUNT(room, room_count);
-    NEEDS(count != NULL, PYBUF_NULL_POINTER);
-    ASKS(pybuf_proved_property(&world->handle, object, (uint32_t)property));
-    return all_numbers(world, room, room_count, count);
-}
-
-pybuf_status pybuf_property_text(pybuf_world *world, pybuf_object object, pybuf_property property, char *room, size_t room_length, size_t *length)
-{
-    NEEDS_WORLD(world);
-    NEEDS_BYTES(room, room_length);
-    NEEDS(length != NULL, PYBUF_NULL_POINTER);
-    ASKS(pybuf_proved_property(&world->handle, object, (uint32_t)property));
-    return one_text(world, room, room_length, length);
-}
-
-pybuf_status pybuf_property_object(pybuf_world *world, pybuf_object object, pybuf_property property, pybuf_object *found)
-{
-    NEEDS_WORLD(world);
-    NEEDS(found != NULL, PYBUF_NULL_POINTER);
-    ASKS(pybuf_proved_property(&world->handle, object, (uint32_t)property));
-    return one_object(world, found);
-}
-
-pybuf_status pybuf_compare(pybuf_world *world, pybuf_object object, pybuf_operator op, const void *bytes, size_t length, pybuf_truth *truth)
-{
-    NEEDS_WORLD(world);
-    NEEDS_BYTES(bytes, length);
-    NEEDS(truth != NULL, PYBUF_NULL_POINTER);
-    ASKS(pybuf_proved_compare(&world->handle, object, (uint32_t)op, bytes_at(bytes), length));
-    return one_truth(world, truth);
-}
-
-pybuf_status pybuf_compare_with(pybuf_world *world, pybuf_object object, pybuf_operator op, pybuf_object other, pybuf_truth *truth)
-{
-    NEEDS_WORLD(world);
-    NEEDS(truth != NULL, PYBUF_NULL_POINTER);
-    ASKS(pybuf_proved_compare_with(&world->handle, object, (uint32_t)op, other));
-    return one_truth(world, truth);
-}
-
-pybuf_status pybuf_contains(pybuf_world *world, pybuf_object object, const void *bytes, size_t length, bool *truth)
-{
-    NEEDS_WORLD(world);
-    NEEDS_BYTES(bytes, length);
-    NEEDS(truth != NULL, PYBUF_NULL_POINTER);
-    ASKS(pybuf_proved_contains(&world->handle, object, bytes_at(bytes), length));
-    return one_flag(world, truth);
-}
-
-pybuf_status pybuf_contains_byte(pybuf_world *world, pybuf_object object, pybuf_number byte, bool *truth)
-{
-    NEEDS_WORLD(world);
-    NEEDS(truth != NULL, PYBUF_NULL_POINTER);
-    ASKS(pybuf_proved_contains_byte(&world->handle, object, byte.magnitude, byte.negative));
-    return one_flag(world, truth);
-}
-
-pybuf_status pybuf_shown(pybuf_world *world, pybuf_object object, char *room, size_t room_length, size_t *length)
-{
-    NEEDS_WORLD(world);
-    NEEDS_BYTES(room, room_length);
-    NEEDS(length != NULL, PYBUF_NULL_POINTER);
-    ASKS(pybuf_proved_shown(&world->handle, object));
-    return one_text(world, room, room_length, length);
-}
-
-pybuf_status pybuf_next(pybuf_world *world, pybuf_object iterator, bool *there, pybuf_number *item)
-{
-    NEEDS_WORLD(world);
-    NEEDS(there != NULL && item != NULL, PYBUF_NULL_POINTER);
     uint32_t kind = 0;
-    ASKS(pybuf_proved_next(&world->handle, iterator));
     ASKS(pybuf_proved_last_kind(&world->handle, &kind));
     *there = kind != STOP_KIND;
     return *there ? one_number(world, item) : PYBUF_OK;
 }
 
-pybuf_status pybuf_append(pybuf_world *world, pybuf_object array, pybuf_number byte)
+/* The calls, row by row. */
+
+CALL(new, OF(pybuf_kind kind, const void *bytes, size_t length, pybuf_object *object), both(some_bytes(bytes, length), a_pointer(object)),
+    ASK(new, (uint32_t)kind, bytes_at(bytes), length), one_object(world, object))
+CALL(view, OF(pybuf_object object, pybuf_object *view), a_pointer(view), ASK(view, object), one_object(world, view))
+CALL(to_readonly, OF(pybuf_object view, pybuf_object *made), a_pointer(made), ASK(to_readonly, view), one_object(world, made))
+CALL(to_contiguous, OF(pybuf_object view, pybuf_object *vector, pybuf_object *made), both(a_pointer(vector), a_pointer(made)),
+    ASK(to_contiguous, view), two_objects(world, vector, made))
+CALL(cast, OF(pybuf_object view, const char *format, const int64_t *shape, size_t dimensions, pybuf_object *made),
+    both(a_pointer(format), both(a_pointer(made), entries(shape, shape ? dimensions : 0, sizeof *shape))),
+    shape ? ASK(cast_to_shape, view, bytes_at(format), strlen(format), shape, dimensions) : ASK(cast, view, bytes_at(format), strlen(format)),
+    one_object(world, made))
+CALL(release, OF(pybuf_object view), PYBUF_OK, ASK(release, view), PYBUF_OK)
+CALL(iterate, OF(pybuf_object object, pybuf_object *iterator), a_pointer(iterator), ASK(iterate, object), one_object(world, iterator))
+CALL(next, OF(pybuf_object iterator, bool *there, pybuf_number *item), both(a_pointer(there), a_pointer(item)),
+    ASK(next, iterator), one_item(world, there, item))
+
+CALL(get_at, OF(pybuf_object view, const int64_t *indices, size_t count, pybuf_number *item), both(entries(indices, count, sizeof *indices), a_pointer(item)),
+    ASK(get_at, view, numbers_at(indices), count), one_number(world, item))
+CALL(get_item_bytes, OF(pybuf_object view, int64_t index, void *room, size_t room_length, size_t *length), a_room(room, room_length, length),
+    ASK(get, view, index), one_text(world, room, room_length, length))
+CALL(get_slice, OF(pybuf_object view, const pybuf_slice *slice, pybuf_object *made), both(a_pointer(slice), a_pointer(made)),
+    ASK(get_slice, view, slice), one_object(world, made))
+CALL(get_slice_bytes, OF(pybuf_object exporter, const pybuf_slice *slice, void *room, size_t room_length, size_t *length),
+    both(a_pointer(slice), a_room(room, room_length, length)), ASK(get_slice, exporter, slice), one_text(world, room, room_length, length))
+CALL(set, OF(pybuf_object object, int64_t index, pybuf_number item), PYBUF_OK, ASK(set, object, index, item.magnitude, item.negative), PYBUF_OK)
+CALL(set_at, OF(pybuf_object view, const int64_t *indices, size_t count, pybuf_number item), entries(indices, count, sizeof *indices),
+    ASK(set_at, view, numbers_at(indices), count, item.magnitude, item.negative), PYBUF_OK)
+CALL(set_slice, OF(pybuf_object object, const pybuf_slice *slice, const void *bytes, size_t length), both(a_pointer(slice), some_bytes(bytes, length)),
+    ASK(set_slice, object, slice, bytes_at(bytes), length), PYBUF_OK)
+CALL(set_slice_of, OF(pybuf_object object, const pybuf_slice *slice, pybuf_object other), a_pointer(slice),
+    ASK(set_slice_of, object, slice, other), PYBUF_OK)
+
+CALL(length, OF(pybuf_object object, size_t *length), a_pointer(length), ASK(length, object), one_size(world, length))
+CALL(bytes, OF(pybuf_object object, void *room, size_t room_length, size_t *length), a_room(room, room_length, length),
+    ASK(bytes, object), one_text(world, room, room_length, length))
+CALL(items, OF(pybuf_object view, pybuf_number *room, size_t room_count, size_t *count), both(entries(room, room_count, sizeof *room), a_pointer(count)),
+    ASK(items, view), all_numbers(world, room, room_count, count))
+CALL(property_number, OF(pybuf_object object, pybuf_property property, pybuf_number *number), a_pointer(number),
+    ASK(property, object, (uint32_t)property), one_number(world, number))
+CALL(property_numbers, OF(pybuf_object object, pybuf_property property, pybuf_number *room, size_t room_count, size_t *count),
+    both(entries(room, room_count, sizeof *room), a_pointer(count)), ASK(property, object, (uint32_t)property), all_numbers(world, room, room_count, count))
+CALL(property_text, OF(pybuf_object object, pybuf_property property, char *room, size_t room_length, size_t *length),
+    a_room(room, room_length, length), ASK(property, object, (uint32_t)property), one_text(world, room, room_length, length))
+CALL(property_object, OF(pybuf_object object, pybuf_property property, pybuf_object *found), a_pointer(found),
+    ASK(property, object, (uint32_t)property), one_object(world, found))
+CALL(compare, OF(pybuf_object object, pybuf_operator op, const void *bytes, size_t length, pybuf_truth *truth),
+    both(some_bytes(bytes, length), a_pointer(truth)), ASK(compare, object, (uint32_t)op, bytes_at(bytes), length), one_truth(world, truth))
+CALL(compare_with, OF(pybuf_object object, pybuf_operator op, pybuf_object other, pybuf_truth *truth), a_pointer(truth),
+    ASK(compare_with, object, (uint32_t)op, other), one_truth(world, truth))
+CALL(contains, OF(pybuf_object object, const void *bytes, size_t length, bool *truth), both(some_bytes(bytes, length), a_pointer(truth)),
+    ASK(contains, object, bytes_at(bytes), length), one_flag(world, truth))
+CALL(contains_byte, OF(pybuf_object object, pybuf_number byte, bool *truth), a_pointer(truth),
+    ASK(contains_byte, object, byte.magnitude, byte.negative), one_flag(world, truth))
+CALL(shown, OF(pybuf_object object, char *room, size_t room_length, size_t *length), a_room(room, room_length, length),
+    ASK(shown, object), one_text(world, room, room_length, length))
+
+CALL(append, OF(pybuf_object array, pybuf_number byte), PYBUF_OK, ASK(append, array, byte.magnitude, byte.negative), PYBUF_OK)
+CALL(extend, OF(pybuf_object array, const void *bytes, size_t length), some_bytes(bytes, length),
+    ASK(extend, array, bytes_at(bytes), length), PYBUF_OK)
+CALL(extend_by, OF(pybuf_object array, pybuf_object other), PYBUF_OK, ASK(extend_by, array, other), PYBUF_OK)
+CALL(insert, OF(pybuf_object array, int64_t index, pybuf_number byte), PYBUF_OK, ASK(insert, array, index, byte.magnitude, byte.negative), PYBUF_OK)
+CALL(pop, OF(pybuf_object array, int64_t index, pybuf_number *byte), a_pointer(byte), ASK(pop, array, index), one_number(world, byte))
+CALL(pop_last, OF(pybuf_object array, pybuf_number *byte), a_pointer(byte), ASK(pop_last, array), one_number(world, byte))
+CALL(remove, OF(pybuf_object array, pybuf_number byte), PYBUF_OK, ASK(remove, array, byte.magnitude, byte.negative), PYBUF_OK)
+CALL(clear, OF(pybuf_object array), PYBUF_OK, ASK(clear, array), PYBUF_OK)
+CALL(reverse, OF(pybuf_object array), PYBUF_OK, ASK(reverse, array), PYBUF_OK)
+CALL(delete, OF(pybuf_object array, int64_t index), PYBUF_OK, ASK(delete, array, index), PYBUF_OK)
+CALL(delete_slice, OF(pybuf_object array, const pybuf_slice *slice), a_pointer(slice), ASK(delete_slice, array, slice), PYBUF_OK)
+CALL(repeat, OF(pybuf_object array, int64_t count), PYBUF_OK, ASK(repeat, array, count), PYBUF_OK)
+CALL(copy, OF(pybuf_object array, pybuf_object *made), a_pointer(made), ASK(copy, array), one_object(world, made))
+CALL(take, OF(pybuf_object vector, void *room, size_t room_length, size_t *length), a_room(room, room_length, length),
+    ASK(take, vector), one_text(world, room, room_length, length))
+
+/* (the export tells the number itself) */
+static pybuf_status get(proved_handle *handle, pybuf_object object, int64_t index, pybuf_number *item)
 {
-    NEEDS_WORLD(world);
-    return (pybuf_status)pybuf_proved_append(&world->handle, array, byte.magnitude, byte.negative);
+    pybuf_number found = {0, false};
+    ASKS(pybuf_proved_get_number(handle, object, index, &found.magnitude, &found.negative));
+    *item = found;
+    return PYBUF_OK;
 }
 
-pybuf_status pybuf_extend(pybuf_world *world, pybuf_object array, const void *bytes, size_t length)
+CALL(get, OF(pybuf_object object, int64_t index, pybuf_number *item), a_pointer(item), get(&world->handle, object, index, item), PYBUF_OK)
+CALL(last_bytes, OF(void *room, size_t room_length, size_t *length), a_room(room, room_length, length),
+    one_text(world, room, room_length, length), PYBUF_OK)
+
+/* (the export tells the place itself) */
+static pybuf_status lend(proved_handle *handle, pybuf_object view, const uint8_t **at, size_t *length)
 {
-    NEEDS_WORLD(world);
-    NEEDS_BYTES(bytes, length);
-    return (pybuf_status)pybuf_proved_extend(&world->handle, array, bytes_at(bytes), length);
+    proved_lent lent = {no_bytes, 0};
+    ASKS(pybuf_proved_lend(handle, view, &lent));
+    *at = lent.at;
+    *length = lent.length;
+    return PYBUF_OK;
 }
 
-pybuf_status pybuf_extend_by(pybuf_world *world, pybuf_object array, pybuf_object other)
+static pybuf_status lend_to_write(proved_handle *handle, pybuf_object view, uint8_t **at, size_t *length)
 {
-    NEEDS_WORLD(world);
-    return (pybuf_status)pybuf_proved_extend_by(&world->handle, array, other);
+    proved_lent_to_write lent = {no_bytes, 0};
+    ASKS(pybuf_proved_lend_to_write(handle, view, &lent));
+    *at = lent.at;
+    *length = lent.length;
+    return PYBUF_OK;
 }
 
-pybuf_status pybuf_insert(pybuf_world *world, pybuf_object array, int64_t index, pybuf_number byte)
-{
-    NEEDS_WORLD(world);
-    return (pybuf_status)pybuf_proved_insert(&world->handle, array, index, byte.magnitude, byte.negative);
-}
-
-pybuf_status pybuf_pop(pybuf_world *world, pybuf_object array, int64_t index, pybuf_number *byte)
-{
-    NEEDS_WORLD(world);
-    NEEDS(byte != NULL, PYBUF_NULL_POINTER);
-    ASKS(pybuf_proved_pop(&world->handle, array, index));
-    return one_number(world, byte);
-}
-
-pybuf_status pybuf_pop_last(pybuf_world *world, pybuf_object array, pybuf_number *byte)
-{
-    NEEDS_WORLD(world);
-    NEEDS(byte != NULL, PYBUF_NULL_POINTER);
-    ASKS(pybuf_proved_pop_last(&world->handle, array));
-    return one_number(world, byte);
-}
-
-pybuf_status pybuf_remove(pybuf_world *world, pybuf_object array, pybuf_number byte)
-{
-    NEEDS_WORLD(world);
-    return (pybuf_status)pybuf_proved_remove(&world->handle, array, byte.magnitude, byte.negative);
-}
-
-pybuf_status pybuf_clear(pybuf_world *world, pybuf_object array)
-{
-    NEEDS_WORLD(world);
-    return (pybuf_status)pybuf_proved_clear(&world->handle, array);
-}
-
-pybuf_status pybuf_reverse(pybuf_world *world, pybuf_object array)
-{
-    NEEDS_WORLD(world);
-    return (pybuf_status)pybuf_proved_reverse(&world->handle, array);
-}
-
-pybuf_status pybuf_delete(pybuf_world *world, pybuf_object array, int64_t index)
-{
-    NEEDS_WORLD(world);
-    return (pybuf_status)pybuf_proved_delete(&world->handle, array, index);
-}
-
-pybuf_status pybuf_delete_slice(pybuf_world *world, pybuf_object array, const pybuf_slice *slice)
-{
-    NEEDS_WORLD(world);
-    NEEDS(slice != NULL, PYBUF_NULL_POINTER);
-    return (pybuf_status)pybuf_proved_delete_slice(&world->handle, array, slice);
-}
-
-pybuf_status pybuf_repeat(pybuf_world *world, pybuf_object array, int64_t count)
-{
-    NEEDS_WORLD(world);
-    return (pybuf_status)pybuf_proved_repeat(&world->handle, array, count);
-}
-
-pybuf_status pybuf_take(pybuf_world *world, pybuf_object vector, void *room, size_t room_length, size_t *length)
-{
-    NEEDS_WORLD(world);
-    NEEDS_BYTES(room, room_length);
-    NEEDS(length != NULL, PYBUF_NULL_POINTER);
-    ASKS(pybuf_proved_take(&world->handle, vector));
-    return one_text(world, room, room_length, length);
-}
-
-pybuf_status pybuf_last_bytes(pybuf_world *world, void *room, size_t room_length, size_t *length)
-{
-    NEEDS_WORLD(world);
-    NEEDS_BYTES(room, room_length);
-    NEEDS(length != NULL, PYBUF_NULL_POINTER);
-    return one_text(world, room, room_length, length);
-}
+CALL(lend, OF(pybuf_object view, const uint8_t **at, size_t *length), both(a_pointer(at), a_pointer(length)),
+    lend(&world->handle, view, at, length), PYBUF_OK)
+CALL(lend_to_write, OF(pybuf_object view, uint8_t **at, size_t *length), both(a_pointer(at), a_pointer(length)),
+    lend_to_write(&world->handle, view, at, length), PYBUF_OK)
 
 /* ---- formats ---- */
 
@@ -604,7 +421,7 @@ pybuf_status pybuf_format_parse(const char *text, size_t length, pybuf_format **
 {
     NEEDS(format != NULL, PYBUF_NULL_POINTER);
     *format = NULL;
-    NEEDS_BYTES(text, length);
+    ASKS(some_bytes(text, length));
     pybuf_format *made = (pybuf_format *)calloc(1, sizeof *made);
     NEEDS(made != NULL, PYBUF_NO_MEMORY);
     uint32_t status = pybuf_proved_format_parse(&made->handle, bytes_at(text), length);
@@ -620,27 +437,11 @@ pybuf_status pybuf_format_parse(const char *text, size_t length, pybuf_format **
 pybuf_status pybuf_format_free(pybuf_format *format)
 {
     NEEDS(format != NULL, PYBUF_OK);
-    NEEDS_FORMAT(format);
+    ASKS(a_format(format));
     pybuf_proved_format_free(&format->handle);
     format->mark = 0;
     free(format);
     return PYBUF_OK;
-}
-
-pybuf_status pybuf_format_size(pybuf_format *format, size_t *size)
-{
-    size_t count = 0;
-    NEEDS_FORMAT(format);
-    NEEDS(size != NULL, PYBUF_NULL_POINTER);
-    return (pybuf_status)pybuf_proved_format_layout(&format->handle, size, &count);
-}
-
-pybuf_status pybuf_format_count(pybuf_format *format, size_t *count)
-{
-    size_t size = 0;
-    NEEDS_FORMAT(format);
-    NEEDS(count != NULL, PYBUF_NULL_POINTER);
-    return (pybuf_status)pybuf_proved_format_layout(&format->handle, &size, count);
 }
 
 /* Whether the pointer of a value may be read. */
@@ -651,10 +452,16 @@ static pybuf_status value_status(const pybuf_value *value)
     case PYBUF_TRUTH_VALUE:
         return PYBUF_OK;
     case PYBUF_BYTES_VALUE:
-        NEEDS_BYTES(value->bytes, value->length);
-        return PYBUF_OK;
+        return some_bytes(value->bytes, value->length);
     }
     return PYBUF_BAD_ARGUMENT;
+}
+
+static pybuf_status all_values(const pybuf_value *values, size_t count)
+{
+    for (size_t i = 0; i < count; i++)
+        ASKS(value_status(&values[i]));
+    return PYBUF_OK;
 }
 
 static pybuf_status put_values(proved_handle *handle, const pybuf_value *values, size_t count)
@@ -667,15 +474,10 @@ static pybuf_status put_values(proved_handle *handle, const pybuf_value *values,
     return PYBUF_OK;
 }
 
-pybuf_status pybuf_format_pack(pybuf_format *format, const pybuf_value *values, size_t count, void *room, size_t room_length, size_t *length)
+static pybuf_status pack(pybuf_format *format, const pybuf_value *values, size_t count, void *room, size_t room_length, size_t *length)
 {
     size_t size = 0, fields = 0;
-    NEEDS_FORMAT(format);
-    NEEDS_COUNT(values, count);
-    NEEDS_BYTES(room, room_length);
-    NEEDS(length != NULL, PYBUF_NULL_POINTER);
-    for (size_t i = 0; i < count; i++)
-        ASKS(value_status(&values[i]));
+    ASKS(all_values(values, count));
     ASKS(pybuf_proved_format_layout(&format->handle, &size, &fields));
     if (size > room_length) {
         *length = size;
@@ -705,13 +507,9 @@ static pybuf_status value_at(proved_handle *handle, size_t index, pybuf_value *v
     return PYBUF_OK;
 }
 
-pybuf_status pybuf_format_unpack(pybuf_format *format, const void *bytes, size_t length, pybuf_value *room, size_t room_count, size_t *count)
+static pybuf_status unpack(pybuf_format *format, const void *bytes, size_t length, pybuf_value *room, size_t room_count, size_t *count)
 {
     size_t size = 0, fields = 0;
-    NEEDS_FORMAT(format);
-    NEEDS_BYTES(bytes, length);
-    NEEDS_COUNT(room, room_count);
-    NEEDS(count != NULL, PYBUF_NULL_POINTER);
     ASKS(pybuf_proved_format_layout(&format->handle, &size, &fields));
     if (fields > room_count) {
         *count = fields;
@@ -724,10 +522,29 @@ pybuf_status pybuf_format_unpack(pybuf_format *format, const void *bytes, size_t
     return PYBUF_OK;
 }
 
-pybuf_status pybuf_format_value_bytes(pybuf_format *format, size_t index, void *room, size_t room_length, size_t *length)
+/* One of the two numbers of a format's layout. */
+static pybuf_status layout(proved_handle *handle, size_t *size, size_t *count)
 {
-    NEEDS_FORMAT(format);
-    NEEDS_BYTES(room, room_length);
-    NEEDS(length != NULL, PYBUF_NULL_POINTER);
-    return (pybuf_status)pybuf_proved_format_value_bytes(&format->handle, index, room_at(room), room_length, length);
+    size_t other = 0;
+    return (pybuf_status)pybuf_proved_format_layout(handle, size ? size : &other, count ? count : &other);
+}
+
+#define OF_FORMAT(...) (pybuf_format *format, __VA_ARGS__)
+#define FORMAT_CALL(name, parameters, tests, asked) CALL_OF(format, a_format, pybuf_format_##name, parameters, tests, asked, PYBUF_OK)
+
+FORMAT_CALL(size, OF_FORMAT(size_t *size), a_pointer(size), layout(&format->handle, size, NULL))
+FORMAT_CALL(count, OF_FORMAT(size_t *count), a_pointer(count), layout(&format->handle, NULL, count))
+FORMAT_CALL(pack, OF_FORMAT(const pybuf_value *values, size_t count, void *room, size_t room_length, size_t *length),
+    both(entries(values, count, sizeof *values), a_room(room, room_length, length)), pack(format, values, count, room, room_length, length))
+FORMAT_CALL(unpack, OF_FORMAT(const void *bytes, size_t length, pybuf_value *room, size_t room_count, size_t *count),
+    both(some_bytes(bytes, length), both(entries(room, room_count, sizeof *room), a_pointer(count))),
+    unpack(format, bytes, length, room, room_count, count))
+FORMAT_CALL(value_bytes, OF_FORMAT(size_t index, void *room, size_t room_length, size_t *length), a_room(room, room_length, length),
+    pybuf_proved_format_value_bytes(&format->handle, index, room_at(room), room_length, length))
+
+pybuf_status pybuf_format_last_cause(pybuf_format *format, char *room, size_t room_length, size_t *length)
+{
+    ASKS(a_format(format));
+    ASKS(a_room(room, room_length, length));
+    return hand_cause(format->call, format->answered, room, room_length, length);
 }

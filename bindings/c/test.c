@@ -149,6 +149,67 @@ static void refusals(pybuf_world *world)
     HOLDS(truth == PYBUF_TRUE);
 }
 
+/* A null room of no bytes asks how many are needed. */
+static void sizes(pybuf_world *world)
+{
+    pybuf_format *format = NULL;
+    pybuf_object array, view;
+    pybuf_value value = pybuf_number_value(pybuf_number_of(1));
+    size_t length = 0;
+    WANT(PYBUF_OK, pybuf_new(world, PYBUF_BYTEARRAY, "abc", 3, &array));
+    WANT(PYBUF_OK, pybuf_view(world, array, &view));
+    WANT(PYBUF_TOO_SMALL, pybuf_bytes(world, view, NULL, 0, &length));
+    HOLDS(length == 3);
+    WANT(PYBUF_TOO_SMALL, pybuf_items(world, view, NULL, 0, &length));
+    HOLDS(length == 3);
+    WANT(PYBUF_TOO_SMALL, pybuf_shown(world, array, NULL, 0, &length));
+    HOLDS(length == 17);
+    WANT(PYBUF_TOO_SMALL, pybuf_property_text(world, view, PYBUF_FORMAT, NULL, 0, &length));
+    HOLDS(length == 1);
+    WANT(PYBUF_OK, pybuf_format_parse("<Q", 2, &format));
+    WANT(PYBUF_TOO_SMALL, pybuf_format_pack(format, &value, 1, NULL, 0, &length));
+    HOLDS(length == 8);
+    WANT(PYBUF_OK, pybuf_format_free(format));
+    WANT(PYBUF_OK, pybuf_release(world, view));
+}
+
+static void causes(void)
+{
+    static const char said[] = "pybuf_append: BufferError: a view is unreleased, so the number of bytes can't change";
+    pybuf_world *world = NULL;
+    pybuf_format *format = NULL;
+    pybuf_object array, view;
+    char room[192];
+    size_t length = 7;
+    WANT(PYBUF_OK, pybuf_world_new(&world));
+    WANT(PYBUF_NOTHING, pybuf_last_cause(world, room, sizeof room, &length));
+    HOLDS(length == 7);
+    WANT(PYBUF_NULL_POINTER, pybuf_last_cause(NULL, room, sizeof room, &length));
+    WANT(PYBUF_NULL_POINTER, pybuf_last_cause(world, NULL, 1, &length));
+    WANT(PYBUF_OK, pybuf_new(world, PYBUF_BYTEARRAY, "a", 1, &array));
+    WANT(PYBUF_OK, pybuf_view(world, array, &view));
+    WANT(PYBUF_BUFFER_ERROR, pybuf_append(world, array, pybuf_number_of(1)));
+    WANT(PYBUF_OK, pybuf_release(world, view));
+    WANT(PYBUF_TOO_SMALL, pybuf_last_cause(world, NULL, 0, &length));
+    HOLDS(length == sizeof said - 1);
+    WANT(PYBUF_OK, pybuf_last_cause(world, room, sizeof room, &length));
+    HOLDS(length == sizeof said - 1 && memcmp(room, said, length) == 0);
+    WANT(PYBUF_NULL_POINTER, pybuf_view(world, array, NULL));
+    WANT(PYBUF_OK, pybuf_last_cause(world, room, sizeof room, &length));
+    HOLDS(length > 26 && memcmp(room, "pybuf_view: null pointer: ", 26) == 0);
+    for (int status = PYBUF_NO_MEMORY; status <= PYBUF_UNKNOWN_NAME + 1; status++)
+        HOLDS((strcmp(pybuf_status_name((pybuf_status)status), "no status") == 0)
+              == ((status > PYBUF_NO_FORMAT && status < PYBUF_INDEX_ERROR) || status > PYBUF_UNKNOWN_NAME));
+    HOLDS(strcmp(pybuf_status_name((pybuf_status)-1), "no status") == 0);
+    WANT(PYBUF_OK, pybuf_world_free(world));
+    WANT(PYBUF_OK, pybuf_format_parse("<Q", 2, &format));
+    WANT(PYBUF_NOTHING, pybuf_format_last_cause(format, room, sizeof room, &length));
+    WANT(PYBUF_STRUCT_ERROR, pybuf_format_pack(format, NULL, 0, room, sizeof room, &length));
+    WANT(PYBUF_OK, pybuf_format_last_cause(format, room, sizeof room, &length));
+    HOLDS(length > 32 && memcmp(room, "pybuf_format_pack: StructError: ", 32) == 0);
+    WANT(PYBUF_OK, pybuf_format_free(format));
+}
+
 static pybuf_format *parsed(const char *text)
 {
     pybuf_format *format = NULL;
@@ -307,6 +368,8 @@ int main(void)
     lengths(world);
     rooms(world);
     refusals(world);
+    sizes(world);
+    causes();
     format_pointers(world);
     format_rooms();
     threads();

@@ -82,12 +82,17 @@ impl Value {
 /// assert_eq!(format.unpack(&bytes)?, [513.into(), b"ab\0".into(), true.into()]);
 /// assert_eq!(format.pack(&[Value::Number(65536)]), Err(Error::Struct));
 /// assert_eq!(Format::new("d").err(), Some(Error::Struct));
+/// // it may go to another thread
+/// assert_eq!(std::thread::spawn(move || format.size()).join().unwrap()?, 6);
 /// # Ok::<(), Error>(())
 /// ```
 pub struct Format {
     pointer: *mut RawFormat,
     text: String,
 }
+
+// SAFETY: the pointer is the format's alone, and what it points to is proved to be `Send`. It isn't `Sync`, since each call changes it.
+unsafe impl Send for Format {}
 
 // SAFETY, of each unsafe block below: the format is alive, no other call uses it, and each pointer points to a place of this call that is as long
 // as the call says.

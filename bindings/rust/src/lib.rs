@@ -24,7 +24,8 @@
 //! | [`MemoryView`] | `memoryview` | as a `ViewCell`; it has no lifetime, and may outlive its array |
 //!
 //! Python's views write the same bytes and see each other's writes. Rust's `&mut` forbids that, so a `ViewMut` is alone, and views that share
-//! bytes are cells. No view may be sent to another thread.
+//! bytes are cells. No view may be sent to another thread. A [`World`] and a [`Format`] may: that of C is proved to be `Send`. A [`ByteArray`]
+//! or [`Bytes`] may once it is [detached](ByteArray::detach), when it has no view.
 //!
 //! A view reads and writes the bytes where they lie, a call for each item. The library doesn't lend an address, so there is no `Deref` to a
 //! slice: [`View::to_bytes`] copies. What released views leave in the library is given back once no view of their array is there.
@@ -93,7 +94,7 @@ mod world;
 pub use error::{Error, Result};
 pub use formats::{Format, Value};
 pub use items::{pack, unpack, Be, Field, Fields, Item, Le};
-pub use objects::{ByteArray, Bytes, Iter, MemoryView};
+pub use objects::{ByteArray, Bytes, Detached, Iter, MemoryView};
 pub use slices::Slice;
 pub use views::{Reader, View, ViewCell, ViewMut};
 pub use world::{RunError, World};

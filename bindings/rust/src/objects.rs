@@ -10,6 +10,7 @@ use std::ffi::CString;
 use std::fmt;
 use std::hash::{Hash, Hasher};
 use std::io;
+use std::marker::PhantomData;
 use std::rc::Rc;
 
 // A world is worn after so many views, and so many more for each of so many bytes, which a new one has to copy.
@@ -586,12 +587,58 @@ impl Bytes {
     }
 }
 
+/// A bytearray or bytes without a view, which may go to another thread. `From` makes what it was of it.
+///
+/// ```
+/// use pybuf::ByteArray;
+///
+/// let array = ByteArray::new(b"abc")?;
+/// let view = array.view()?;
+/// let array = array.detach().unwrap_err();
+/// drop(view);
+/// let detached = array.detach().unwrap();
+/// let longer = std::thread::spawn(move || {
+///     let array = ByteArray::from(detached);
+///     array.append(100).unwrap();
+///     array.detach().unwrap()
+/// });
+/// assert_eq!(ByteArray::from(longer.join().unwrap()), *b"abcd");
+/// # Ok::<(), pybuf::Error>(())
+/// ```
+pub struct Detached<T> {
+    world: World,
+    number: u64,
+    owner: PhantomData<fn() -> T>,
+}
+
+impl<T> fmt::Debug for Detached<T> {
+    fn fmt(&self, f: &mut fmt::Formatter<'_>) -> fmt::Result {
+        f.debug_struct("Detached").finish_non_exhaustive()
+    }
+}
+
 const MEMORY: &str = "pybuf: memory ran out";
 
 /// What owners of bytes have in common.
 macro_rules! owners {
     ($($owner:ident $kind:literal)*) => {$(
         impl $owner {
+            /// Takes it off its thread, so that it may go to another one. It comes back as it is, in `Err`, while a view of it is there.
+            ///
+            /// ```
+            #[doc = concat!("let owner = pybuf::", stringify!($owner), "::new(b\"abc\")?.detach().unwrap();")]
+            #[doc = concat!("let told = std::thread::spawn(move || pybuf::", stringify!($owner), "::from(owner) == *b\"abc\");")]
+            /// assert!(told.join().unwrap());
+            /// # Ok::<(), pybuf::Error>(())
+            /// ```
+            pub fn detach(self) -> std::result::Result<Detached<$owner>, $owner> {
+                let Object { world, number } = self.object.into_inner();
+                match Rc::try_unwrap(world) {
+                    Ok(world) => Ok(Detached { world, number, owner: PhantomData }),
+                    Err(world) => Err($owner { object: Object { world, number }.into() }),
+                }
+            }
+
             fn object(&self) -> Ref<'_, Object> {
                 self.object.borrow()
             }
@@ -605,6 +652,13 @@ macro_rules! owners {
                     }
                 }
                 self.object()
+            }
+        }
+
+        impl From<Detached<$owner>> for $owner {
+            fn from(detached: Detached<$owner>) -> $owner {
+                let Detached { world, number, .. } = detached;
+                $owner { object: Object { world: Rc::new(world), number }.into() }
             }
         }
 

@@ -43,6 +43,9 @@ impl From<Error> for RunError {
 /// let mut world = pybuf::World::new()?;
 /// let replies = world.run("new bytearray x616263\nview h0\nset h1 0 65\nget h1 0\nbytes h1\nrelease h1\n")?;
 /// assert_eq!(replies, ["h0", "h1", "ok", "65", "b'Abc'", "ok"]);
+/// // it may go to another thread
+/// let told = std::thread::spawn(move || world.run("len h0\n"));
+/// assert_eq!(told.join().unwrap()?, ["3"]);
 /// # Ok::<(), pybuf::RunError>(())
 /// ```
 pub struct World {
@@ -52,6 +55,10 @@ pub struct World {
     /// How many objects it made, whose numbers stay taken when they are released.
     count: Cell<u64>,
 }
+
+// SAFETY: the pointer is the world's alone, and what it points to is proved to be `Send`: no part of it is bound to a thread. It isn't
+// `Sync`, since each call changes it.
+unsafe impl Send for World {}
 
 impl World {
     /// A world with nothing in it.
