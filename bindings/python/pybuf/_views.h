@@ -421,7 +421,7 @@ static PyObject *view_compare(PyObject *self, PyObject *other, int op)
     if (own->released || (others && ((View *)other)->released))
         return PyBool_FromLong((self == other) == (op == Py_EQ));
     if (!own->shared)
-        return world_of_view(own) ? NULL : NULL;
+        return PyErr_Format(PyExc_ValueError, "the object was never made");
     Shared *shared = is_array(other) ? ((Array *)other)->shared : others ? ((View *)other)->shared : NULL;
     if (shared == own->shared && !own->shown && !(others && ((View *)other)->shown)) {
         pybuf_object number = others ? ((View *)other)->object : shared->root;
@@ -547,7 +547,10 @@ static PyObject *view_cast(PyObject *self, PyObject *arguments, PyObject *named)
         PyErr_SetString(PyExc_TypeError, "cast() argument 'format' must be str");
         return NULL;
     }
-    const char *format = PyUnicode_AsUTF8AndSize(text, &size);
+    /* UnicodeEncodeError, as in Python */
+    PyObject *plain = PyUnicode_AsASCIIString(text);
+    Py_XDECREF(plain);
+    const char *format = plain ? PyUnicode_AsUTF8AndSize(text, &size) : NULL;
     if (!format)
         return NULL;
     if (strlen(format) != (size_t)size) {
