@@ -40,7 +40,7 @@ def _carried(format):
 class Struct(_native.Format, Uncopied):
     """Struct(format)\n--\n\nA format of the module `struct`."""
 
-    __slots__ = ('format', '__weakref__')
+    __slots__ = {'format': 'The text of the format.', '__weakref__': 'What refers to the format weakly.'}
 
     def __init__(self, format):
         if isinstance(format, bytes):
@@ -51,10 +51,8 @@ class Struct(_native.Format, Uncopied):
         if '\0' in format:
             raise struct_error('embedded null character')
         carried, codes = _carried(format)
-        # the library reads the format first, so that no count is too large for what follows
-        size = _native.Format()
-        try:
-            size._measure(carried.encode('ascii'))
+        try:  # the library reads the format first, so that no count is too large for what follows
+            self._measure(carried.encode('ascii'))
         except struct_error:
             raise struct_error('bad char in struct format') from None
         self._parse(carried.encode('ascii'), ''.join(code if code in 'sp' else code * int(count or 1) for code, count in codes).encode('ascii'))

@@ -672,6 +672,8 @@ static PyObject *replies_of(pybuf_world *world, size_t count)
         Room room;
         pybuf_status status;
         READ(room, status, lib.world_reply(world, at, room.at, room.size, &room.length));
+        if (status == PYBUF_NOTHING) /* the line ran, and there was no memory for its reply */
+            status = PYBUF_NO_MEMORY;
         PyObject *reply = status ? refuse(of_none, "world_reply", status) : PyUnicode_DecodeUTF8(room.at, (Py_ssize_t)room.length, NULL);
         all += room.length;
         room_end(&room);
@@ -1215,6 +1217,8 @@ static PyObject *answer_of(Line *line, Array *own, const Method *method)
     if (status)
         return refuse(of_arrays, method->name, status);
     READ(room, status, lib.world_reply(world, 0, room.at, room.size, &room.length));
+    if (status == PYBUF_NOTHING) /* the line ran, and there was no memory for its reply */
+        status = PYBUF_NO_MEMORY;
     /* a world doesn't keep replies that have more bytes than this */
     if (room.length > 65536)
         lib.world_run(world, "", 0, NULL, NULL);
@@ -1222,7 +1226,7 @@ static PyObject *answer_of(Line *line, Array *own, const Method *method)
     if (status)
         refuse(of_arrays, method->name, status);
     else if (room.length > 2 && room.at[0] == '!') {
-        status = PYBUF_INDEX_ERROR;
+        status = PYBUF_NOTHING;
         for (int at = PYBUF_INDEX_ERROR; at <= PYBUF_UNKNOWN_NAME; at++) {
             const char *name = lib.status_name((pybuf_status)at);
             if (strlen(name) == room.length - 2 && memcmp(name, room.at + 2, room.length - 2) == 0)
