@@ -25,6 +25,8 @@ import zipfile
 
 HERE = pathlib.Path(__file__).resolve().parent
 OWN = ('build_backend.py', 'pyproject.toml')
+# the sources of the extension module
+NATIVE = ('_native.c', '_lines.h', '_packing.h', '_views.h')
 SUMMARY = "Python's bytearray, memoryview and struct by the proved library pybuf"
 
 
@@ -54,15 +56,16 @@ def compile_native(folder):
     """Compiles the extension module into a folder."""
     made = pathlib.Path(folder, '_native.abi3.so')
     compiler = shlex.split(os.environ.get('CC', 'cc'))
-    flags = ['-std=gnu11', '-Wall', '-Wextra', '-Werror', '-O2', '-fPIC', '-shared']
-    folders = [f'-I{it}' for it in (sysconfig.get_path('include'), header().parent)]
+    flags = ['-std=c11', '-Wall', '-Wextra', '-Wpedantic', '-Werror', '-O2', '-fPIC', '-shared']
+    # strict C has complaints about Python's own headers, which `-isystem` leaves out
+    folders = ['-isystem', sysconfig.get_path('include'), f'-I{header().parent}']
     subprocess.run([*compiler, *flags, *folders, '_native.c', '-o', made.absolute()], cwd=HERE / 'pybuf', check=True)
     return made
 
 
 def modules():
     """The files of the package, by the names that they have in an archive."""
-    kept = [it for it in (HERE / 'pybuf').iterdir() if it.suffix == '.py' or it.name.startswith('libpybuf.so.')]
+    kept = [it for it in (HERE / 'pybuf').iterdir() if it.suffix in ('.py', '.pyi', '.typed') or it.name.startswith('libpybuf.so.')]
     return {f'pybuf/{it.name}': it.read_bytes() for it in sorted(kept)}
 
 
@@ -101,7 +104,7 @@ def build_wheel(wheel_directory, config_settings=None, metadata_directory=None):
 
 def build_sdist(sdist_directory, config_settings=None):
     files = {name: content for name, content in modules().items() if '.so.' not in name}
-    files.update({name: (HERE / name).read_bytes() for name in (*OWN, 'pybuf/_native.c')})
+    files.update({name: (HERE / name).read_bytes() for name in (*OWN, *(f'pybuf/{name}' for name in NATIVE))})
     files['pybuf/pybuf.h'] = header().read_bytes()
     files.update(beside())
     files['PKG-INFO'] = metadata().encode()

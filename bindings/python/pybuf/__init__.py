@@ -7,7 +7,7 @@ own folder, in the prefix where `tools/install` put the package, and in bindings
 it.
 `python3 -m pybuf` prints the versions of the package and of the library.
 """
-from ._calls import Status, library_version, struct_error
+from ._calls import library_version, struct_error
 from ._formats import Struct, calcsize, iter_unpack, pack, pack_into, unpack, unpack_from
 from ._objects import ByteArray, MemoryView
 from ._version import __version__
@@ -18,3 +18,12 @@ error = struct_error
 
 __all__ = ['BadLine', 'ByteArray', 'MemoryView', 'Status', 'Struct', 'World', '__version__', 'calcsize', 'error', 'iter_unpack',
            'library_version', 'pack', 'pack_into', 'struct_error', 'unpack', 'unpack_from']
+
+
+def __getattr__(name):
+    """`Status`, which is made when it is asked for, since the module `enum` takes long to import."""
+    if name != 'Status':
+        raise AttributeError(f'module {__name__!r} has no attribute {name!r}')
+    from ._status import Status
+    globals()[name] = Status
+    return Status

@@ -1,83 +1,35 @@
-"""What the calls of include/pybuf.h answer, as Python's exceptions. The extension module `_native` makes the calls."""
-import enum
-import operator
+"""The shared library, which is opened here, and what a call answers. The extension module `_native` makes the calls."""
 import os
-import pathlib
-import struct
+import sys
+from struct import error as struct_error
 
 from . import _native
 from ._version import __version__
 
-struct_error = struct.error
-
-
-class Status(enum.IntEnum):
-    """What a call answers (pybuf_status)."""
-    OK = 0
-    NO_MEMORY = 1
-    NO_WORLD = 2
-    TOO_SMALL = 3
-    BAD_LINE = 4
-    NOTHING = 5
-    BAD_ARGUMENT = 6
-    NULL_POINTER = 7
-    TOO_LONG = 8
-    NO_FORMAT = 9
-    INDEX_ERROR = 16
-    VALUE_ERROR = 17
-    TYPE_ERROR = 18
-    BUFFER_ERROR = 19
-    STRUCT_ERROR = 20
-    OVERFLOW_ERROR = 21
-    NOT_IMPLEMENTED_ERROR = 22
-    UNKNOWN_NAME = 23
-
-
-EXCEPTIONS = {
-    Status.NO_MEMORY: MemoryError,
-    Status.INDEX_ERROR: IndexError,
-    Status.VALUE_ERROR: ValueError,
-    Status.TYPE_ERROR: TypeError,
-    Status.BUFFER_ERROR: BufferError,
-    Status.STRUCT_ERROR: struct.error,
-    Status.OVERFLOW_ERROR: OverflowError,
-    Status.NOT_IMPLEMENTED_ERROR: NotImplementedError,
-    Status.UNKNOWN_NAME: LookupError,
-    Status.BAD_ARGUMENT: ValueError,
-}
-
-
-# The number of an object that has `__index__`, as Python reads an index.
-index_of = operator.index
-
-
-def word_of(value, refusal=IndexError):
-    """An index, which is refused if it doesn't fit a word."""
-    number = index_of(value)
-    if not -1 << 63 <= number < 1 << 63:
-        raise refusal('cannot fit an index into a word')
-    return number
+_NAME = f'libpybuf.so.{__version__.partition(".")[0]}'
 
 
 def _places():
     """Where the shared library may lie: beside the modules as in a wheel, in lib/ of a prefix, in bindings/out."""
-    here = pathlib.Path(__file__).resolve().parent
-    yield here / _NAME
-    if here.parts[-4:-1] == ('lib', 'pybuf', 'python'):
-        yield here.parents[2] / _NAME
-    yield here.parents[1] / 'out' / 'libpybuf.so'
+    here = os.path.dirname(os.path.realpath(__file__))
+    above = os.path.dirname(here)
+    yield os.path.join(here, _NAME)
+    if above.endswith(os.path.join(os.sep, 'lib', 'pybuf', 'python')):
+        yield os.path.join(os.path.dirname(os.path.dirname(above)), _NAME)
+    yield os.path.join(os.path.dirname(above), 'out', 'libpybuf.so')
 
 
 def _library():
     """Opens the shared library. It tells the version of it."""
-    path = os.environ.get('PYBUF_LIBRARY') or next((it for it in _places() if it.is_file()), _NAME)
+    path = os.environ.get('PYBUF_LIBRARY') or next((it for it in _places() if os.path.isfile(it)), _NAME)
     try:
-        return _native.load(str(path))
+        return _native.load(path)
     except OSError as fault:
         raise ImportError(f'pybuf: {path} is no library of pybuf {__version__} ({fault}): let PYBUF_LIBRARY name it') from None
 
 
-_NAME = f'libpybuf.so.{__version__.partition(".")[0]}'
+if not getattr(sys, '_is_gil_enabled', lambda: True)():
+    raise ImportError('pybuf: an interpreter without its lock is not supported, since the lock keeps calls apart')
 _VERSION = _library()
 
 
@@ -89,11 +41,8 @@ def library_version():
 class Uncopied:
     """An object that names something in the library, and so is neither copied nor pickled."""
 
+    __slots__ = ()
+
     def __reduce__(self):
+        """Refuses a copy."""
         raise TypeError(f'cannot pickle {type(self).__name__!r} object')
-
-
-def raise_for(status, *message):
-    """Raises the exception that a status stands for, with a message or with the name of the status."""
-    status = Status(status)
-    raise EXCEPTIONS.get(status, RuntimeError)(*message or (status.name,))

@@ -1,5 +1,5 @@
 """Floats. The library has no codes of them. Each is carried as a whole number of the same size, alignment and byte order, and Python's own `struct`
-turns bits into floats and back."""
+turns bits into floats and back, where `_native` doesn't."""
 import struct
 
 BITS = {'e': 'H', 'f': 'I', 'd': 'Q'}

@@ -1,55 +1,46 @@
 """`Struct`, which behaves as Python's `struct.Struct`."""
-import functools
-import re
+from operator import index
 
 from . import _native
-from ._calls import Uncopied, index_of, struct_error, word_of
+from ._calls import Uncopied, struct_error
 from ._floats import BITS, bits_of, float_of
-from ._objects import ByteArray, MemoryView, _lent_whole
+from ._objects import ByteArray, MemoryView, _word
 
 # this number stands for one that doesn't fit 64 bits; no code except '?' takes it
 _PAST_ALL = -(1 << 64) + 1
-
-
-def _place(name, offset, size, length, refusal):
-    """The place of so many bytes from an offset on. A negative offset counts from the end."""
-    offset = word_of(offset, refusal)
-    is_pack = name == 'pack_into'
-    if offset < 0:
-        if offset + size > 0:
-            raise struct_error(f'{"no space to pack" if is_pack else "not enough data to unpack"} {size} bytes at offset {offset}')
-        if offset + length < 0:
-            raise struct_error(f'offset {offset} out of range for {length}-byte buffer')
-        offset += length
-    if length - offset < size:
-        raise struct_error(f'{name} requires a buffer of at least {offset + size} bytes for {"" if is_pack else "un"}packing {size} bytes at '
-                           f'offset {offset} (actual buffer size is {length})')
-    return offset
-
-
-# The code of a pointer is that of a size, and is native alone, as in Python.
-_STANDARD = '=<>!'
 # the names and the bounds that Python's messages have for some codes of whole numbers
 _RANGES = {'b': ('byte', -1 << 7, (1 << 7) - 1), 'B': ('ubyte', 0, (1 << 8) - 1), 'h': ('short', -1 << 15, (1 << 15) - 1),
            'H': ('ushort', 0, (1 << 16) - 1)}
+_DIGITS = '0123456789'
 
 
 def _carried(format):
-    """A format with whole numbers in place of floats, and without the blanks that may stand between codes."""
-    if re.search(r'u|\d\s|\s[@=<>!]', format):  # a code of the library alone, or a blank where Python has none
-        raise struct_error('bad char in struct format')
-    if format[-1:].isdigit():
+    """A format with whole numbers in place of floats, and without the blanks that may stand between codes; and the code of each value."""
+    order = format[:1] if format[:1] in ('@', '=', '<', '>', '!') else ''
+    # the code of a pointer is that of a size, and is native alone, as in Python
+    instead = BITS if order in ('=', '<', '>', '!') else {**BITS, 'P': 'N'}
+    written, codes, count = [order], [], ''
+    for code in format[len(order):]:
+        if code.isspace() and not count:
+            continue
+        if code == 'u' or code in ' \t\n\r\v\f@=<>!':  # a code of the library alone, or a blank or an order where Python has none
+            raise struct_error('bad char in struct format')
+        if code in _DIGITS:
+            count += code
+            continue
+        written.append(count + instead.get(code, code))
+        if code != 'x':
+            codes.append((code, count))
+        count = ''
+    if count:
         raise struct_error('repeat count given without format specifier')
-    format = ''.join(format.split())
-    pointers = {} if format[:1] in tuple(_STANDARD) else {'P': 'N'}
-    return re.sub('[efdP]', lambda code: {**BITS, **pointers}.get(code[0], code[0]), format)
+    return ''.join(written), codes
 
 
-class Struct(Uncopied):
-    """A format of the module `struct`."""
+class Struct(_native.Format, Uncopied):
+    """Struct(format)\n--\n\nA format of the module `struct`."""
 
-    def __new__(cls, *arguments, **named):  # as in Python, a class below may pass on what it was given
-        return super().__new__(cls)
+    __slots__ = {'format': 'The text of the format.', '__weakref__': 'What refers to the format weakly.'}
 
     def __init__(self, format):
         if isinstance(format, bytes):
@@ -57,44 +48,59 @@ class Struct(Uncopied):
         elif not isinstance(format, str):
             raise TypeError(f'Struct() argument 1 must be a str or bytes object, not {type(format).__name__}')
         format.encode('ascii')  # UnicodeEncodeError, as in Python
-        carried = _carried(format).encode('ascii')
-        if b'\0' in carried:
+        if '\0' in format:
             raise struct_error('embedded null character')
-        try:
-            self._parsed = _native.Format(carried)
+        carried, codes = _carried(format)
+        try:  # the library reads the format first, so that no count is too large for what follows
+            self._measure(carried.encode('ascii'))
         except struct_error:
             raise struct_error('bad char in struct format') from None
-        self.format, self.size, self._count = format, self._parsed.size, self._parsed.count
-        vars(self).pop('_codes', None)  # this matters if `__init__` is called once more
+        self._parse(carried.encode('ascii'), ''.join(code if code in 'sp' else code * int(count or 1) for code, count in codes).encode('ascii'))
+        self.format = format
 
     def __repr__(self):
         return f'Struct({self.format!r})'
 
-    @functools.cached_property
     def _codes(self):
         """The code of each value."""
-        parts = re.findall(r'(\d*)(\D)', ''.join(self.format.split()).lstrip('@=<>!'))
-        return ''.join(code if code in 'sp' else code * int(count or 1) for count, code in parts if code != 'x')
+        return ''.join(code if code in 'sp' else code * int(count or 1) for code, count in _carried(self.format)[1])
 
-    def pack(self, *values):
-        if len(values) != self._count:
-            raise struct_error(f'pack expected {self._count} items for packing (got {len(values)})')
-        packed = tuple(map(_packed_as, self._codes, values))
+    def _pack_slowly(self, values):
+        """Packs values of which some isn't what `_native` reads."""
+        packed = tuple(map(_packed_as, self._codes(), values))
         try:
-            return self._parsed.pack(packed)
+            return self._packed(packed)
         except struct_error:  # the values are of their kinds, so one doesn't fit
             raise struct_error(self._misfit(values)) from None
 
     def _misfit(self, values):
         """Python's message for the first number that doesn't fit its code."""
-        for code, value in zip(self._codes, values):
+        for code, value in zip(self._codes(), values):
             name, least, most = _RANGES.get(code, ('', 0, 0))
-            if name and not least <= index_of(value) <= most:
+            if name and not least <= index(value) <= most:
                 return f'{name} format requires {least} <= number <= {most}'
         return 'argument out of range'
 
-    def pack_into(self, buffer, offset, *values):
-        """Writes the bytes of the values into a buffer. A refusal changes nothing."""
+    def _with_halves(self, values):
+        """Values with floats in the place of the bits of those of two bytes."""
+        return tuple(float_of(code, value) if code == 'e' else value for code, value in zip(self._codes(), values))
+
+    def _place(self, name, offset, length):
+        """The place of a format's bytes from an offset on. A negative offset counts from the end."""
+        size, is_pack = self.size, name == 'pack_into'
+        if offset < 0:
+            if offset + size > 0:
+                raise struct_error(f'{"no space to pack" if is_pack else "not enough data to unpack"} {size} bytes at offset {offset}')
+            if offset + length < 0:
+                raise struct_error(f'offset {offset} out of range for {length}-byte buffer')
+            offset += length
+        if length - offset < size:
+            raise struct_error(f'{name} requires a buffer of at least {offset + size} bytes for {"" if is_pack else "un"}packing {size} bytes at '
+                               f'offset {offset} (actual buffer size is {length})')
+        return offset
+
+    def pack_into(self, buffer, offset, /, *values):
+        """Writes the bytes of the values into a buffer, from an offset on. A refusal changes nothing."""
         if len(values) != self._count:
             raise struct_error(f'pack_into expected {self._count} items for packing (got {len(values)})')
         ours = isinstance(buffer, (ByteArray, MemoryView))
@@ -102,36 +108,28 @@ class Struct(Uncopied):
         with view:
             if view.readonly or not view.c_contiguous:
                 raise TypeError('a read-write bytes-like object is required')
-            offset = _place('pack_into', offset, self.size, view.nbytes, IndexError)
+            offset = self._place('pack_into', _word(offset, IndexError), view.nbytes)
             packed = self.pack(*values)
             if packed:
                 with view.cast('B') as room:
                     room[offset:offset + self.size] = packed
 
-    def unpack(self, buffer):
-        content = _lent_whole(buffer)
-        if len(content) != self.size:
-            raise struct_error(f'unpack requires a buffer of {self.size} bytes')
-        return self._values(content)
-
-    def unpack_from(self, buffer, offset=0):
-        content = _lent_whole(buffer)
-        offset = _place('unpack_from', offset, self.size, len(content), OverflowError)
-        return self._values(content[offset:offset + self.size])
-
-    def iter_unpack(self, buffer):
+    def iter_unpack(self, buffer, /):
+        """An iterator over the values of each piece of a buffer, where each piece has the size of the format."""
         if self.size == 0:
             raise struct_error('cannot iteratively unpack with a struct of length 0')
-        content = _lent_whole(buffer)
+        if isinstance(buffer, MemoryView) and not buffer.c_contiguous:
+            raise BufferError('memoryview: underlying buffer is not C-contiguous')
+        if isinstance(buffer, (ByteArray, MemoryView)):
+            content = buffer.tobytes()
+        else:
+            with memoryview(buffer) as view:
+                if not view.c_contiguous:
+                    raise BufferError('memoryview: underlying buffer is not C-contiguous')
+                content = view.tobytes()
         if len(content) % self.size:
             raise struct_error(f'iterative unpacking requires a buffer of a multiple of {self.size} bytes')
         return _Values(self, content)
-
-    def _values(self, content):
-        values = self._parsed.unpack(content)
-        if not any(code in self._codes for code in BITS):
-            return values
-        return tuple(float_of(code, value) if code in BITS else value for code, value in zip(self._codes, values))
 
 
 class _Values:
@@ -151,7 +149,7 @@ class _Values:
         if at >= len(self._content):
             raise StopIteration
         self._at = at + self._struct.size
-        return self._struct._values(self._content[at:self._at])
+        return self._struct.unpack(self._content[at:self._at])
 
 
 def _packed_as(code, value):
@@ -170,21 +168,27 @@ def _packed_as(code, value):
         return bits_of(code, value)
     if not hasattr(type(value), '__index__'):
         raise struct_error('required argument is not an integer')
-    number = index_of(value)
+    number = index(value)
     if code == 'P' and -1 << 63 <= number < 0:  # as in Python, a pointer is counted from the end of the memory
         number += 1 << 64
     return number if abs(number) < 1 << 64 else _PAST_ALL
 
 
 # As Python's module does, the functions below keep the formats that were used last.
-_known = functools.lru_cache(maxsize=100)(Struct)
+_KEPT = {}
 
 
 def _kept(format):
-    return _known(format) if isinstance(format, (str, bytes)) else Struct(format)
+    made = _KEPT.get(format) if isinstance(format, (str, bytes)) else None
+    if made is None:
+        made = Struct(format)
+        if len(_KEPT) >= 100:
+            _KEPT.clear()
+        _KEPT[format] = made
+    return made
 
 
-def calcsize(format):
+def calcsize(format, /):
     """The size of the bytes of a format."""
     return _kept(format).size
 

@@ -35,10 +35,16 @@ def cycle(array):
 
 def main():
     array, letters = ByteArray(b'abcdef'), Struct('>H3s')
+    stays, numbers = MemoryView(ByteArray(bytes(60))), MemoryView(bytes(60)).cast('H')
     works = {
         'views': (1_000_000, lambda: MemoryView(array)),
         'views that are released': (100_000, lambda: MemoryView(array).release()),
         'slices': (100_000, lambda: MemoryView(array)[1:]),
+        'slices of a view that stays': (300_000, lambda: stays[1:]),
+        'casts of a view that stays': (100_000, lambda: stays.cast('H')[::2]),
+        'slices of a copy that stays': (100_000, lambda: numbers[2:]),
+        'methods': (100_000, lambda: array.find(b'de')),
+        'methods that give arrays': (50_000, lambda: array.split(b'c')),
         'casts': (100_000, lambda: MemoryView(array).cast('H')),
         'views of bytes': (100_000, lambda: MemoryView(b'abc')[1:]),
         'arrays': (100_000, lambda: ByteArray(b'abc')),

@@ -560,7 +560,9 @@ def worlds_arent_copied():
 
 LEFT = """
 from pybuf import ByteArray, MemoryView, Struct, World
-array, world, format = ByteArray(b'ab'), World(), Struct('H')
+class Own(ByteArray):
+    pass
+array, world, format = Own(b'ab'), World(), Struct('H')
 view = MemoryView(array)[1:]
 views = [view, MemoryView(b'ab'), array, world, format]
 views.append(views)
