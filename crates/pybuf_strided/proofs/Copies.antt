@@ -1,8 +1,8 @@
 -- Items that are copied one after the other.
-use Rattle.std.proofs.Common.{◌≡◌, ℕ, zero, suc, ◌+◌, ◌-◌, ◌*◌, ◌<◌, ◌≤◌, false, List, [], ◌∷◌, ◌++◌, length, take, drop, get_or, ap, ap₂, sym, ◌∙◌, refl, arith}
+use Rattle.std.proofs.Common.{◌≡◌, ℕ, zero, suc, ◌+◌, ◌-◌, ◌*◌, ◌<◌, ◌≤◌, false, true, List, [], ◌∷◌, ◌++◌, length, take, drop, reverse, get_or, ap, ap₂, sym, ◌∙◌, refl, arith}
 use Rattle.std.proofs.Math.Nat.{zero-mul, mul-le-mul_right}
 use Rattle.std.proofs.lemmas.Grind.{common_steps}
-use Rattle.std.proofs.lemmas.List.{length-append, length-take-le, length-drop, append-nil, append_assoc, take_at, take_rest, take-append-drop, drop-drop, drop_more, get_or-drop}
+use Rattle.std.proofs.lemmas.List.{length-append, length-take-le, length-drop, length-reverse, reverse-append, append-nil, append_assoc, take_at, take_rest, take-append-drop, drop-drop, drop_more, get_or-drop}
 use borrow.Rule.Slice.PartMut.{put_mid}
 use Rattle.std.proofs.Math.Seq.{drop-append-add}
 use Rattle.pybuf_lanes.specs.Gathers.{every}
@@ -134,13 +134,75 @@ ones_inside start step count size room all some one by =
     let times : (count - 1) * step ≡ count - 1 = ap (λ (k : ℕ). (count - 1) * k) by ∙ omega arith in
     omega (arith, last, times, one, some)
 
--- so far a number of steps reaches, as the sum of those before the last, and the last
-abbrev pub InSteps : ℕ → ℕ → Type 0
-InSteps step count = (count - 1) * step + step ≡ step * count
+-- ---- bytes from one to the next below it, to where they lie one after the other
 
-pub apart_inside : (by start step count room : ℕ) → AreInside false start step count 1 room → 0 < count → step ≡ by → InSteps by count → start + by * count < room + by
-apart_inside by start step count room all some is sum =
-    let last : start + (count - 1) * step + 1 ≤ room = all.high (omega arith) (count - 1) (omega (arith, some)) in
-    let times : (count - 1) * step ≡ (count - 1) * by = ap (λ (k : ℕ). (count - 1) * k) is in
-    let whole : (count - 1) * by + by ≡ by * count = sum in
-    omega (arith, last, times, whole)
+-- the bytes up to a place, as many as a number says
+abbrev up_to : List ℕ → ℕ → ℕ → List ℕ
+up_to source from n = take n (drop (from + 1 - n) source)
+
+one_below : (source : List ℕ) (from n : ℕ) → suc n ≤ from + 1 → from < length source → reverse (up_to source from (suc n)) ≡ reverse (up_to source from n) ++ get_or source (from - n) 0 ∷ []
+one_below source from n enough inside =
+    let at : from + 1 - suc n ≡ from - n = omega arith in
+    let next : from - n + 1 ≡ from + 1 - n = omega (arith, enough) in
+    let b : ℕ = get_or source (from - n) 0 in
+    let parts : up_to source from (suc n) ≡ b ∷ up_to source from n =
+    ap (λ (k : ℕ). take (suc n) (drop k source)) at
+    ∙ ap (take (suc n)) (drop_more source (from - n) 0 (omega (arith, inside)))
+    ∙ ap (λ (k : ℕ). b ∷ take n (drop k source)) next in
+    ap reverse parts ∙ reverse-append (b ∷ []) (up_to source from n)
+
+falling_moved : (bytes source : List ℕ) (to from n : ℕ) → n ≤ from + 1 → from < length source → to + n ≤ length bytes
+    → moved_at bytes (place_of false to 1) source (place_of true from 1) 1 n ≡ (take to bytes ++ reverse (up_to source from n)) ++ drop (to + n) bytes
+falling_moved bytes source to from zero enough source_inside inside =
+    let same : to + 0 ≡ to = omega arith in
+    sym (ap₂ (λ (xs : List ℕ) (k : ℕ). xs ++ drop k bytes) (append-nil (take to bytes)) same ∙ take-append-drop to bytes)
+falling_moved bytes source to from (suc n) enough source_inside inside =
+    let turned : List ℕ = reverse (up_to source from n) in
+    let front : List ℕ = take to bytes ++ turned in
+    let b : ℕ = get_or source (from - n) 0 in
+    let room : to + n ≤ length bytes = omega (arith, inside) in
+    let fewer_below : n ≤ from + 1 = omega (arith, enough) in
+    let whole : to ≤ length bytes = omega (arith, inside) in
+    let at : to + n * 1 ≡ to + n = omega arith in
+    let next : to + n + 1 ≡ to + suc n = omega arith in
+    let place : from - n * 1 ≡ from - n = omega arith in
+    let item : take 1 (drop (from - n * 1) source) ≡ b ∷ [] = ap (λ (k : ℕ). take 1 (drop k source)) place ∙ byte_at source (from - n) (omega (arith, source_inside)) in
+    let many : length turned ≡ n = length-reverse (up_to source from n) ∙ length-take-le n (drop (from + 1 - n) source) (omega (arith, length-drop (from + 1 - n) source, source_inside, enough)) in
+    let long : length front ≡ to + n = omega (arith, length-append (take to bytes) turned, length-take-le to bytes whole, many) in
+    ap₂ (λ (xs : List ℕ) (k : ℕ). with_piece xs k (take 1 (drop (from - n * 1) source))) (falling_moved bytes source to from n fewer_below source_inside room) at
+    ∙ ap (with_piece (front ++ drop (to + n) bytes) (to + n)) item
+    ∙ piece_after front (b ∷ []) bytes (to + n) long
+    ∙ ap₂ (λ (xs : List ℕ) (k : ℕ). xs ++ drop k bytes) (append_assoc (take to bytes) turned (b ∷ []) ∙ ap (λ (xs : List ℕ). take to bytes ++ xs) (sym (one_below source from n enough source_inside))) next
+
+pub turned_moved : (bytes source written : List ℕ) (to from count : ℕ) → count ≤ from + 1 → from < length source → to + count ≤ length bytes
+    → written ≡ reverse (take (from + 1 - (from + 1 - count)) (drop (from + 1 - count) source))
+    → put_mid to (to + count - to) bytes written ≡ moved_at bytes (place_of false to 1) source (place_of true from 1) 1 count
+turned_moved bytes source written to from count enough source_inside inside is =
+    let many : to + count - to ≡ count = omega arith in
+    let size : from + 1 - (from + 1 - count) ≡ count = omega (arith, enough) in
+    let turned : List ℕ = reverse (up_to source from count) in
+    let gathered : written ≡ turned = is ∙ ap (λ (k : ℕ). reverse (take k (drop (from + 1 - count) source))) size in
+    ap₂ (λ (k : ℕ) (ys : List ℕ). put_mid to k bytes ys) many gathered
+    ∙ ap (λ (xs : List ℕ). take to bytes ++ (turned ++ xs)) (drop-drop count to bytes)
+    ∙ sym (append_assoc (take to bytes) turned (drop (to + count) bytes))
+    ∙ sym (falling_moved bytes source to from count enough source_inside inside)
+
+pub room_as_long : (bytes source : List ℕ) (to from count : ℕ) → count ≤ from + 1 → from < length source → to + count ≤ length bytes
+    → length (take (to + count - to) (drop to bytes)) ≡ length (take (from + 1 - (from + 1 - count)) (drop (from + 1 - count) source))
+room_as_long bytes source to from count enough source_inside inside =
+    length-take-le (to + count - to) (drop to bytes) (omega (arith, length-drop to bytes, inside))
+    ∙ (let same : to + count - to ≡ from + 1 - (from + 1 - count) = omega (arith, enough) in same)
+    ∙ sym (length-take-le (from + 1 - (from + 1 - count)) (drop (from + 1 - count) source) (omega (arith, length-drop (from + 1 - count) source, source_inside, enough)))
+
+-- where bytes lie that are copied so
+pub turned_enough : (start step count size room : ℕ) → AreInside true start step count size room → 0 < count → step ≡ 1 → count ≤ start + 1
+turned_enough start step count size room all some by =
+    let low : (count - 1) * step ≤ start = all.low (count - 1) (omega (arith, some)) refl in
+    let times : (count - 1) * step ≡ count - 1 = ap (λ (k : ℕ). (count - 1) * k) by ∙ omega arith in
+    omega (arith, low, times, some)
+
+pub turned_inside : (start step count size room : ℕ) → AreInside true start step count size room → 0 < count → size ≡ 1 → start < room
+turned_inside start step count size room all some one =
+    let first : start - 0 * step + size ≤ room = all.high (omega (arith, one)) 0 some in
+    let none : 0 * step ≡ 0 = zero-mul step in
+    omega (arith, first, none, one)

@@ -2,7 +2,7 @@
 ghost use Rattle.std.specs.Prelude.{◌≡◌, ◌+◌, ◌*◌, ◌<◌, ◌≤◌, ◌^◌, true, false, length, take, drop};
 ghost use Rattle.pybuf_strided.specs.Apart.{place_of, AreInside, with_piece, moved_at};
 
-use pybuf_lanes::{gather_halves, gather_quarters, gather_thirds};
+use pybuf_lanes::{gather_halves, gather_quarters, gather_reversed, gather_thirds};
 
 /// How many bytes pay for the call that copies by lanes.
 const LANES_PAY: usize = 32;
@@ -245,6 +245,19 @@ fn gather_rising(bytes: &mut [u8], to: usize, source: &[u8], from: Track, count:
     }
 }
 
+/// Copies bytes downwards, from one to the next below it, to where they lie one after the other, by lanes.
+fn copy_turned(bytes: &mut [u8], to: usize, source: &[u8], from: usize, count: usize)
+    requires inside { to + count ≤ length bytes.old }
+    requires enough { count ≤ from + 1 }
+    requires source_inside { from < length source.now }
+    ensures { bytes.new ≡ moved_at bytes.old (place_of false to 1) source.now (place_of true from 1) 1 count }
+{
+    gather_reversed(
+        &source[from + 1 - count..from + 1],
+        &mut bytes[to..to + count],
+    );
+}
+
 /// Copies items upwards from where they lie upwards.
 fn copy_rising(bytes: &mut [u8], to: Track, source: &[u8], from: Track, size: usize, count: usize)
     requires some_size { 0 < size }
@@ -259,6 +272,20 @@ fn copy_rising(bytes: &mut [u8], to: Track, source: &[u8], from: Track, size: us
     }
 }
 
+/// Copies items upwards from where they lie downwards.
+fn copy_falling(bytes: &mut [u8], to: Track, source: &[u8], from: Track, size: usize, count: usize)
+    requires some_size { 0 < size }
+    requires inside { AreInside false to.start to.step count size (length bytes.old) }
+    requires source_inside { AreInside true from.start from.step count size (length source.now) }
+    ensures { bytes.new ≡ moved_at bytes.old (place_of false to.start to.step) source.now (place_of true from.start from.step) size count }
+{
+    if size == 1 && to.step == 1 && from.step == 1 && count >= LANES_PAY {
+        copy_turned(bytes, to.start, source, from.start, count);
+    } else {
+        copy_by_size::<false, true>(bytes, to, source, from, size, count);
+    }
+}
+
 /// Copies items of a size above 0, with the loop for their directions.
 fn copy_some(bytes: &mut [u8], to: Track, source: &[u8], from: Track, size: usize, count: usize)
     requires some_size { 0 < size }
@@ -268,7 +295,7 @@ fn copy_some(bytes: &mut [u8], to: Track, source: &[u8], from: Track, size: usiz
 {
     match (to.falls, from.falls) {
         (false, false) => copy_rising(bytes, to, source, from, size, count),
-        (false, true) => copy_by_size::<false, true>(bytes, to, source, from, size, count),
+        (false, true) => copy_falling(bytes, to, source, from, size, count),
         (true, false) => copy_by_size::<true, false>(bytes, to, source, from, size, count),
         (true, true) => copy_by_size::<true, true>(bytes, to, source, from, size, count),
     }

@@ -1,8 +1,7 @@
 //! Each length at each place.
 use crate::plain::{self, SOURCE};
 use pybuf_lanes::{
-    count_byte, gather_halves, gather_quarters, gather_thirds, leading_blanks, read_digits,
-    trailing_blanks, write_digits,
+    count_byte, gather_halves, leading_blanks, read_digits, trailing_blanks, write_digits,
 };
 use std::test::Fail;
 
@@ -99,30 +98,26 @@ fn reading_stops_before_the_block_with_a_byte_that_is_no_digit(
     Ok(())
 }
 
-/// Whether every second, third and fourth byte is what the loop takes.
-fn gathered_alike(bytes: &[u8]) -> bool {
-    let length = bytes.len();
-    if length > MOST {
+/// Whether every second byte is what the loop takes.
+fn halves_alike(bytes: &[u8]) -> bool {
+    let mut halves = [0; MOST];
+    let mut wanted = [0; MOST];
+    let half = bytes.len().div_ceil(2);
+    if half > MOST {
         return false;
     }
-    let mut made = [[0; MOST]; 3];
-    let mut wanted = [[0; MOST]; 3];
-    gather_halves(bytes, &mut made[0][..length.div_ceil(2)]);
-    gather_thirds(bytes, &mut made[1][..length.div_ceil(3)]);
-    gather_quarters(bytes, &mut made[2][..length.div_ceil(4)]);
-    plain::gather(2, bytes, &mut wanted[0]);
-    plain::gather(3, bytes, &mut wanted[1]);
-    plain::gather(4, bytes, &mut wanted[2]);
-    made == wanted
+    gather_halves(bytes, &mut halves[..half]);
+    plain::gather_halves(bytes, &mut wanted);
+    halves == wanted
 }
 
 #[test]
-fn bytes_in_steps_of_each_length_are_those_of_a_loop(rt: HostRuntime) -> Result<(), Fail> {
+fn every_second_byte_of_each_length_is_that_of_a_loop(rt: HostRuntime) -> Result<(), Fail> {
     let mut source = [0; SOURCE];
     plain::fill(&mut source, false);
     for place in 0..16 {
         for length in 0..MOST + 1 {
-            assert!(rt; gathered_alike(&source[place..place + length]));
+            assert!(rt; halves_alike(&source[place..place + length]));
         }
     }
     Ok(())

@@ -76,17 +76,16 @@ pub fn write_digits(bytes: &[u8], room: &mut [u8]) {
     }
 }
 
-/// Writes every so manyth byte as far as the room goes.
-pub fn gather(step: usize, bytes: &[u8], room: &mut [u8]) {
+/// Writes every second byte as far as the room goes.
+pub fn gather_halves(bytes: &[u8], room: &mut [u8]) {
     let mut taken = room.iter_mut();
-    let mut left: usize = 0;
+    let mut is_wanted = true;
     for byte in bytes {
-        if left == 0 {
+        if is_wanted {
             if let Some(one) = taken.next() {
                 *one = *byte;
             }
-            left = step;
         }
-        left = left.saturating_sub(1);
+        is_wanted = !is_wanted;
     }
 }
