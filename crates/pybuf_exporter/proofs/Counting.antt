@@ -210,8 +210,13 @@ always_on_err P (Err e) holds = holds
 -- The moves so far and the room after a step are together at most the moves and the room before it and what it
 -- took out.
 step_pays : (call : QueueCall) (cut : ℕ) (old : StoredExporter) (before : ℕ) (new : StoredExporter) (after : ℕ) → IsQueueStep call cut old before new after → after + new.room ≤ before + (old.room + cut)
-step_pays (Append bytes) cut old before new after step = omega (arith, step.0, step.2)
-step_pays (DropFront count) cut old before new after step = omega (arith, step.0, step.2.0, step.2.1)
+step_pays (Append bytes) cut old before new after step =
+    let pays : after + new.room ≤ before + old.room = step.2 in
+    omega (arith, step.0, pays)
+step_pays (DropFront count) cut old before new after step =
+    let rooms : new.room ≡ old.room + count = step.2.0 in
+    let moves : after ≡ before = step.2.1 in
+    omega (arith, step.0, rooms, moves)
 step_pays (Command command) cut old before new after step =
     elim step.1 [
       | inl front ↦ omega (arith, step.2.front_counter cut front step.0, step.2.front_room cut front step.0)
