@@ -115,10 +115,14 @@ fn negated(number: u128) -> i128
     -(number as i128)
 }
 
-/// The whole number that the digits after `-` spell.
+/// The whole number that the digits after `-` spell: most of them by one machine word.
+#[tactic(auto, using(crate::proofs::Digits::wider))]
 fn negative(digits: &[u8]) -> Result<Scalar, Unread>
     ensures { Reads result (negative_in digits.now) }
 {
+    if let Some(number) = word_number(digits) {
+        return Ok(Scalar::Int(-i128::from(number)));
+    }
     match number((1 << 127) + 1, digits) {
         Some(number) => Ok(Scalar::Int(negated(number))),
         None => Err(Unread::NoCommand),
