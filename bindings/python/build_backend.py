@@ -26,7 +26,7 @@ import zipfile
 HERE = pathlib.Path(__file__).resolve().parent
 OWN = ('build_backend.py', 'pyproject.toml')
 # the sources of the extension module
-NATIVE = ('_native.c', '_lines.h', '_packing.h', '_views.h')
+NATIVE = ('_native.c', '_lending.h', '_lines.h', '_packing.h', '_views.h')
 SUMMARY = "Python's bytearray, memoryview and struct by the proved library pybuf"
 
 

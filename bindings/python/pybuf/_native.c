@@ -22,7 +22,14 @@
     X(get_at) X(get_slice) X(get_slice_bytes) X(set) X(set_at) X(set_slice) X(set_slice_of) X(length) X(bytes) X(items) X(property_number) \
     X(property_numbers) X(property_text) X(compare) X(compare_with) X(contains) X(contains_byte) X(append) X(extend) X(extend_by) X(insert) \
     X(pop) X(pop_last) X(remove) X(clear) X(reverse) X(delete) X(delete_slice) X(repeat) X(take) X(last_bytes) X(format_parse) X(format_free) \
-    X(format_size) X(format_count) X(format_pack) X(format_unpack) X(format_value_bytes)
+    X(format_size) X(format_count) X(format_pack) X(format_unpack) X(format_value_bytes) LENDING(X)
+
+/* The header says whether the library lends the bytes of views. */
+#ifdef PYBUF_LENDS
+#define LENDING(X) X(lend) X(lend_to_write)
+#else
+#define LENDING(X)
+#endif
 
 typedef struct {
 #define X(name) __typeof__(pybuf_##name) *name;
@@ -621,6 +628,7 @@ static int lend_content(PyObject *value, Lent *lent)
 }
 
 #include "_lines.h"
+#include "_lending.h"
 
 /* ---- worlds that run lines ---- */
 
@@ -1462,7 +1470,7 @@ static PyType_Slot array_slots[] = {{Py_tp_doc, "ByteArray(source=b'', encoding=
                                     SLOT(Py_nb_inplace_add, array_add_in_place),
                                     SLOT(Py_mp_subscript, array_subscript),
                                     SLOT(Py_mp_ass_subscript, array_ass_subscript),
-                                    {0, 0}};
+                                    BUFFER(array_buffer){0, 0}};
 static PyType_Spec array_spec = {"pybuf.ByteArray", sizeof(Array), 0, Py_TPFLAGS_DEFAULT | Py_TPFLAGS_BASETYPE, array_slots};
 
 #include "_views.h"

@@ -780,6 +780,16 @@ static PyObject *view_get_format(PyObject *self, void *none)
     return made;
 }
 
+#ifdef PYBUF_LENDS
+/* The format as bytes. */
+static PyObject *view_bytes_shown(View *own)
+{
+    PyObject *text = view_get_format((PyObject *)own, NULL), *bytes = text ? PyUnicode_AsUTF8String(text) : NULL;
+    Py_XDECREF(text);
+    return bytes;
+}
+#endif
+
 static PyObject *view_get_obj(PyObject *self, void *none)
 {
     (void)none;
@@ -886,7 +896,7 @@ static PyType_Slot view_slots[] = {{Py_tp_doc, "MemoryView(object)\n--\n\n"
                                    SLOT(Py_sq_item, view_item),
                                    SLOT(Py_mp_subscript, view_subscript),
                                    SLOT(Py_mp_ass_subscript, view_ass_subscript),
-                                   {0, 0}};
+                                   BUFFER(view_buffer){0, 0}};
 static PyType_Spec view_spec = {"pybuf.MemoryView", sizeof(View), 0, Py_TPFLAGS_DEFAULT | Py_TPFLAGS_BASETYPE | Py_TPFLAGS_HAVE_GC, view_slots};
 
 #endif

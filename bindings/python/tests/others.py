@@ -1,6 +1,6 @@
-"""Our objects beside Python's files, sockets, mapped files, pickles and formats. Our types have no buffer for C code, since the library doesn't
-lend its bytes. So bytes go over as copies, by `bytes(..)` in one direction and by the types' own reading in the other. That is tested too: what
-wants a buffer refuses our objects, and takes none of them for a buffer of a copy.
+"""Our objects beside Python's files, sockets, mapped files, pickles and formats. Where the library lends its bytes, C code of Python's reads and
+writes them where they lie. Else our types have no buffer: bytes go over as copies, by `bytes(..)` in one direction and by the types' own reading in
+the other, and what wants a buffer refuses our objects, so that no copy is taken for shared bytes.
 
     others.py     the last line counts what was compared
 """
@@ -89,6 +89,53 @@ def formats():
     yield hashlib.sha256(bytes(ours)).digest() == hashlib.sha256(bytes(theirs)).digest()
 
 
+def lends():
+    try:
+        memoryview(ByteArray()).release()
+    except TypeError:
+        return False
+    return True
+
+
+def bytes_are_shared():
+    """What is written on one side is seen on the other, and the array keeps its length until the last buffer is given back."""
+    ours = ByteArray(CONTENT)
+    view = memoryview(ours)
+    view[0], ours[1] = 65, 66
+    yield ours[0] == 65 and view[1] == 66 and view.obj is ours
+    try:
+        ours.append(1)
+        yield False
+    except BufferError:
+        yield True
+    view.release()
+    ours.append(1)
+    yield io.BytesIO(b'12345').readinto(ours) == 5 and ours[:5] == b'12345'
+    yield hashlib.sha256(ours).digest() == hashlib.sha256(bytes(ours)).digest()
+    sender, receiver = socket.socketpair()
+    with sender, receiver:
+        sender.sendall(MemoryView(ours)[:100])
+        yield receiver.recv_into(MemoryView(ours)[200:300]) == 100 and ours[200:300] == ours[:100]
+    with tempfile.TemporaryFile() as file:
+        yield file.write(ours) == len(ours) and file.seek(0) == 0 and file.read() == bytes(ours)
+    numbers = memoryview(MemoryView(ours)[:16].cast('H', [2, 4]))
+    yield numbers.tolist() == MemoryView(ours)[:16].cast('H', [2, 4]).tolist() and numbers.format == 'H' and numbers.shape == (2, 4)
+    numbers[1, 3] = 5
+    yield ours[14] == 5
+    yield memoryview(MemoryView(ours).toreadonly()).readonly
+    for _ in range(5000):  # the world isn't moved while a buffer is out
+        MemoryView(ours)[1:]
+    numbers[0, 0] = 513
+    yield ours[:2] == b'\x01\x02'
+    del numbers
+    ours.append(1)
+    try:
+        memoryview(MemoryView(ours)[::2])
+        yield False
+    except BufferError:
+        yield True
+
+
 def no_buffer_is_pretended():
     """A copy isn't passed off as shared bytes."""
     ours, view = ByteArray(b'abc'), MemoryView(ByteArray(b'abc'))
@@ -111,7 +158,7 @@ def no_buffer_is_pretended():
 
 def main():
     compared = 0
-    for test in a_file, streams, sockets, copies, formats, no_buffer_is_pretended:
+    for test in a_file, streams, sockets, copies, formats, bytes_are_shared if lends() else no_buffer_is_pretended:
         for place, same in enumerate(test()):
             compared += 1
             if not same:
