@@ -175,6 +175,14 @@ pybuf_status pybuf_cast(pybuf_world *world, pybuf_object view, const char *forma
 /* memoryview.release(). A second time changes nothing. */
 pybuf_status pybuf_release(pybuf_world *world, pybuf_object view);
 
+/* The bytes of a view, lent where they lie: *at and *length tell the place. Nothing is copied. It answers PYBUF_NOTHING where
+ * the object is no unreleased view, or its items don't lie one after the other, and pybuf_lend_to_write also where they may
+ * only be read. The place is good until the view is released or the world freed: while a view of an exporter is unreleased, no
+ * call changes its length, nor moves its bytes. What is written there is seen by all views of these bytes. What is lent for
+ * reading isn't written, and while a call on the world runs, the place is neither read nor written. */
+pybuf_status pybuf_lend(pybuf_world *world, pybuf_object view, const uint8_t **at, size_t *length);
+pybuf_status pybuf_lend_to_write(pybuf_world *world, pybuf_object view, uint8_t **at, size_t *length);
+
 /* object[index], and object[indices] of a view of several dimensions. */
 pybuf_status pybuf_get(pybuf_world *world, pybuf_object object, int64_t index, pybuf_number *item);
 pybuf_status pybuf_get_at(pybuf_world *world, pybuf_object view, const int64_t *indices, size_t count, pybuf_number *item);

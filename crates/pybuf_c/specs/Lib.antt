@@ -3,3 +3,4 @@ pub mod Holding
 pub mod Numbers
 pub mod Worlds
 pub mod Packers
+pub mod Lending

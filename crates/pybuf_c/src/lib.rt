@@ -10,6 +10,7 @@
 mod asking;
 mod edits;
 mod formats;
+mod lending;
 mod numbers;
 mod objects;
 mod replies;
@@ -28,6 +29,7 @@ pub use formats::{
     pybuf_proved_format_put_number, pybuf_proved_format_unpack, pybuf_proved_format_value,
     pybuf_proved_format_value_bytes,
 };
+pub use lending::{LentToRead, LentToWrite, pybuf_proved_lend, pybuf_proved_lend_to_write};
 pub use objects::{
     pybuf_proved_bytes, pybuf_proved_cast, pybuf_proved_cast_to_shape, pybuf_proved_compare,
     pybuf_proved_compare_with, pybuf_proved_contains, pybuf_proved_contains_byte, pybuf_proved_get,

@@ -4,3 +4,5 @@ pub mod Owned
 pub mod Held
 pub mod Values
 pub mod Replies
+pub mod Reached
+pub mod Lending

@@ -27,6 +27,9 @@ impl Model for ConsoleAddress {
 unsafe impl Send for ConsoleAddress {}
 
 impl ConsoleAddress {
+    ghost use Rattle.std.specs.Borrow.{sem};
+    ghost use Rattle.pybuf_console.specs.Reached.{LendsConsole};
+
     /// No address.
     #[inline(always)]
     pub fn empty(alloc: Global) -> ConsoleAddress
@@ -62,5 +65,15 @@ impl ConsoleAddress {
             at: at as *mut Console,
             alloc,
         }
+    }
+
+    /// The console at the address, lent where it lies.
+    #[inline(always)]
+    pub fn as_mut(&mut self) -> &mut Console
+        requires { self.old.full ≡ true }
+        ensures* writes_back { sem 𝓛 (LendsConsole self.entry result) }
+        ensures value { result.now ≡ self.old.console }
+    {
+        unsafe { &mut *(self.at as *mut Console) }
     }
 }

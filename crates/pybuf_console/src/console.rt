@@ -42,6 +42,8 @@ fn hand_reply(alloc: Global, reply: &Reply, room: &mut [u8], count: &mut usize) 
 }
 
 impl Console {
+    ghost use Rattle.std.specs.Borrow.{sem};
+    ghost use Rattle.pybuf_console.specs.Lending.{LendsWorld};
     ghost use Rattle.pybuf_console.specs.Replies as replies;
     ghost use Rattle.pybuf_console.specs.Console.{empty_console, Runs, HasAsked, refusal_of};
 
@@ -141,5 +143,24 @@ impl Console {
             Some(bytes) => hand_bytes(bytes, room, count),
             None => Handed::Nothing,
         }
+    }
+
+    /// The world, lent to be read. Takes no memory.
+    /// Example: of `Console::new(alloc)` its `handle_count()` is 0.
+    #[inline(always)]
+    pub fn world(&self) -> &World
+        ensures { result.now ≡ self.now.world }
+    {
+        &self.world
+    }
+
+    /// The world, lent to be changed. The replies stay. Takes no memory.
+    /// Example: `console.world_mut().release(1)` releases the view that the handle 1 names.
+    #[inline(always)]
+    pub fn world_mut(&mut self) -> &mut World
+        ensures* writes_back { sem 𝓛 (LendsWorld self.entry result) }
+        ensures value { result.now ≡ self.old.world }
+    {
+        &mut self.world
     }
 }

@@ -11,6 +11,13 @@ pub trait Gate {
     /// Called with the lock held.
     /// Example: at the first call of session 2 it is `gate.inside(2, 0)`, after `gate.before(2, 0)`.
     fn inside(&self, session: u64, turn: u64);
+
+    /// How many commands a session of `run_sessions` may carry out while it holds the lock once. For these, `before`
+    /// and `inside` are called once, with the turn of the first. If it is 0 or 1, each command asks for the lock.
+    /// Example: it is 1 if a gate doesn't say otherwise, and `OpenGate` says 64.
+    fn at_once(&self) -> u64 {
+        1
+    }
 }
 
 /// The gate that does nothing.
@@ -21,4 +28,8 @@ impl Gate for OpenGate {
     fn before(&self, _session: u64, _turn: u64) {}
 
     fn inside(&self, _session: u64, _turn: u64) {}
+
+    fn at_once(&self) -> u64 {
+        64
+    }
 }

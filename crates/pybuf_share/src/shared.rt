@@ -6,6 +6,7 @@ use crate::gate::{Gate, OpenGate};
 use crate::joined::{FinishFault, Joined};
 use crate::logged::Logged;
 use crate::session::Session;
+use crate::worker::Worker;
 use pybuf_command::{ExporterKind, LocalCommand};
 use pybuf_value::{ByteList, Made, NoMemory, Twin};
 use std::alloc::Global;
@@ -39,6 +40,7 @@ impl<L: Ledger> SharedExporter<L> {
     ghost use Rattle.pybuf_state.specs.Fits.{LoansFit};
     ghost use Rattle.pybuf_share.specs.Sessions.{sessions_from, IsAnswered};
     ghost use Rattle.pybuf_share.specs.Finishing.{AreAll, IsJoined, ArePlain, AreTheirs, RefusesAtLast};
+    ghost use Rattle.pybuf_share.specs.Working.{post_of};
 
     /// An exporter of a kind and of these bytes, and so many sessions, numbered from 0, each of which has one part of
     /// the ledger. The number of sessions is from 1 to 1,024.
@@ -130,6 +132,25 @@ impl<L: Ledger> SharedExporter<L> {
         let mut logged = self.locked.lock(rt);
         gate.inside(number, turn);
         session.ask(&mut logged, kept, own)
+    }
+
+    /// Carries out the next commands of a worker, at most so many, while it holds the lock once. Each is one step and
+    /// has an entry of its own. It stops where memory runs out.
+    pub(crate) fn call_at_once<R: Wait, G: Gate>(
+        &self,
+        rt: &R,
+        worker: &mut Worker<L>,
+        most: u64,
+        gate: &G,
+    ) -> Made<()>
+        ensures { post_of worker.new ≡ post_of worker.old }
+    {
+        let number = worker.number();
+        let turn = worker.turn();
+        gate.before(number, turn);
+        let mut logged = self.locked.lock(rt);
+        gate.inside(number, turn);
+        worker.carry_out_here(self.alloc, &mut logged, most)
     }
 
     /// What all sessions did, put together (`Logged::join`), by the kind and the bytes that it was made with. It

@@ -1,8 +1,9 @@
 //! A session that carries out a script.
-ghost use Rattle.std.specs.Prelude.{◌≡◌, IfOk};
+ghost use Rattle.std.specs.Prelude.{◌≡◌, length, IfOk};
 
 use crate::entries::LocalCommandList;
 use crate::gate::Gate;
+use crate::logged::Logged;
 use crate::resolving::resolved;
 use crate::session::Session;
 use crate::shared::SharedExporter;
@@ -75,6 +76,74 @@ impl<L: Ledger> Worker<L> {
         }
     }
 
+    /// The number of the session.
+    pub(crate) fn number(&self) -> u64
+        ensures { result ≡ self.now.asker.number }
+    {
+        self.session.number()
+    }
+
+    /// How many receipts the session has.
+    pub(crate) fn turn(&self) -> u64
+        ensures { result ≡ length self.now.asker.receipts }
+    {
+        self.session.receipts().len() as u64
+    }
+
+    /// Carries out the next command on what lies under the lock, where there is one. Where memory runs out, it is still
+    /// to be carried out.
+    fn carry_out_one(&mut self, alloc: Global, logged: &mut Logged<L>) -> Made<()>
+        ensures { post_of self.new ≡ post_of self.old }
+    {
+        let Some(command) = self.script.as_slice().get(self.done) else {
+            return Ok(());
+        };
+        match resolved(alloc, command, &self.session) {
+            Ok(command) => match logged.note_call(&mut self.session, command) {
+                Ok(()) => {
+                    self.done += 1;
+                    Ok(())
+                }
+                Err(NoMemory) => Err(NoMemory),
+            },
+            Err(NoMemory) => Err(NoMemory),
+        }
+    }
+
+    /// Carries out the next commands, at most so many, on what lies under the lock.
+    pub(crate) fn carry_out_here(
+        &mut self,
+        alloc: Global,
+        logged: &mut Logged<L>,
+        most: u64,
+    ) -> Made<()>
+        ensures { post_of self.new ≡ post_of self.old }
+    {
+        for _ in 0..most {
+            if self.carry_out_one(alloc, logged).is_err() {
+                return Err(NoMemory);
+            }
+        }
+        Ok(())
+    }
+
+    /// Carries out the next commands: one, or as many as the gate lets it carry out at once.
+    fn carry_out_some<R: Wait, G: Gate>(
+        &mut self,
+        rt: &R,
+        alloc: Global,
+        shared: &SharedExporter<L>,
+        gate: &G,
+    ) -> Made<()>
+        ensures { post_of self.new ≡ post_of self.old }
+    {
+        let most = gate.at_once();
+        if most > 1 {
+            return shared.call_at_once(rt, self, most, gate);
+        }
+        self.carry_out_next(rt, alloc, shared, gate)
+    }
+
     /// Carries out the commands of the script, in order, and stops where memory runs out.
     pub(crate) fn carry_out<R: Wait, G: Gate>(
         &mut self,
@@ -86,7 +155,10 @@ impl<L: Ledger> Worker<L> {
         ensures { post_of self.new ≡ post_of self.old }
     {
         for _ in 0..self.script.len() {
-            if self.carry_out_next(rt, alloc, shared, gate).is_err() {
+            if self.done >= self.script.len() {
+                return;
+            }
+            if self.carry_out_some(rt, alloc, shared, gate).is_err() {
                 return;
             }
         }

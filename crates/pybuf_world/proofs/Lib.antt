@@ -1,3 +1,4 @@
+pub mod LentBytes
 pub mod Lists
 pub mod WithoutRoom
 pub mod Steps

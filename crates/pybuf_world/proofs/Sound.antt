@@ -55,7 +55,7 @@ pub record IsWell (e : Exporter) : Type 0 where
   pub sound : IsSoundExporter e
   pub apart : IsSpaced e
 
-well_at : (w : World) (i : ℕ) (e : Exporter) → IsSoundWorld w → slice_get w.exporters i ≡ Some e → IsWell e
+pub well_at : (w : World) (i : ℕ) (e : Exporter) → IsSoundWorld w → slice_get w.exporters i ≡ Some e → IsWell e
 well_at w i e sound at = record {
   sound = element_holds IsSoundExporter w.exporters i e sound.exporters_are_sound at;
   apart = element_holds IsSpaced w.exporters i e sound.items_lie_apart at;
@@ -120,7 +120,7 @@ pub record IsStepped (old new : Exporter) : Type 0 where
   pub subjects : HasAllOf old new
 
 -- the world after an exporter replaced another
-with_set_sound : (w : World) (i : ℕ) (old e : Exporter) → IsSoundWorld w → slice_get w.exporters i ≡ Some old → IsStepped old e → IsSoundWorld (record w { exporters = set w.exporters i e })
+pub with_set_sound : (w : World) (i : ℕ) (old e : Exporter) → IsSoundWorld w → slice_get w.exporters i ≡ Some old → IsStepped old e → IsSoundWorld (record w { exporters = set w.exporters i e })
 with_set_sound w i old e sound at stepped =
     let same : length w.exporters ≡ length (set w.exporters i e) = sym (length-set w.exporters i e) in
     record {
@@ -130,7 +130,7 @@ with_set_sound w i old e sound at stepped =
       exporters_are_named = subst (λ (n : ℕ). AreNamed n w.handles) same sound.exporters_are_named;
     }
 
-with_set_owned : (w : World) (i : ℕ) (e : Exporter) (owners : List ℕ) → AreOwners w owners → AreOwners (record w { exporters = set w.exporters i e }) owners
+pub with_set_owned : (w : World) (i : ℕ) (e : Exporter) (owners : List ℕ) → AreOwners w owners → AreOwners (record w { exporters = set w.exporters i e }) owners
 with_set_owned w i e owners owned =
     let same : length w.exporters ≡ length (set w.exporters i e) = sym (length-set w.exporters i e) in
     record {

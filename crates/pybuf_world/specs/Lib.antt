@@ -11,3 +11,4 @@ pub mod Sharing
 pub mod Naming
 pub mod Releasing
 pub mod Facts
+pub mod Lending

@@ -2,6 +2,7 @@
 #![tactic(auto)]
 
 mod laws;
+mod lending;
 mod listing;
 mod named;
 mod others;

@@ -35,6 +35,8 @@ fn nth(exporters: &[ExporterState], number: usize) -> Option<&ExporterState>
 }
 
 impl ExporterList {
+    ghost use Rattle.std.specs.Borrow.{sem};
+    ghost use Rattle.pybuf_world.specs.Lending.{LendsNth};
     ghost use Rattle.pybuf_world.specs.Listing.{exporters_of, lent_exporter, released_among};
 
     /// No exporters. Takes no memory.
@@ -69,6 +71,16 @@ impl ExporterList {
         ensures { lent_exporter result ≡ slice_get self.now number }
     {
         nth(self.exporters.as_slice(), number)
+    }
+
+    /// The exporter of a number, lent to be changed.
+    /// Example: `list.nth_mut(0).bytes_mut()` lends the bytes of the first one.
+    pub fn nth_mut(&mut self, number: usize) -> &mut ExporterState
+        requires { number < length self.old }
+        ensures* writes_back { sem 𝓛 (LendsNth self.entry number result) }
+        ensures value { slice_get self.old number ≡ Some result.now.exporter }
+    {
+        &mut self.exporters[number]
     }
 
     /// Adds an exporter behind all others. Where memory runs out, nothing is changed.

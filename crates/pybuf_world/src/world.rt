@@ -29,6 +29,8 @@ impl Model for World {
 }
 
 impl World {
+    ghost use Rattle.std.specs.Borrow.{sem};
+    ghost use Rattle.pybuf_world.specs.Lending.{lends_to_write, view_bytes, LendsContent, LendsView};
     ghost use Rattle.pybuf_value.specs.declared.faults.Fault.TheVariants as faults;
     ghost use Rattle.pybuf_world.specs.World.{empty_world, wstep, world_after_all, replies_of, released_by, names_view};
     ghost use Rattle.pybuf_world.specs.Sound.{IsSoundWorld, StaysSound, StopsAt};
@@ -102,5 +104,40 @@ impl World {
     {
         releases_are_refused_by_name();
         self.tables.release(handle)
+    }
+
+    /// The bytes of the view that a handle names, lent without a copy. It is None exactly where the handle names no
+    /// unreleased view, or one whose items don't lie one after the other. Takes no memory.
+    ///
+    /// While the view is unreleased, no command changes the length of its exporter.
+    /// Example: after `new bytes x616263` and `view h0` `world.lent(1)` is `Some(b"abc")`, and `world.lent(0)` None.
+    pub fn lent(&self, handle: u64) -> Option<&[u8]>
+        ensures { LendsContent self.now handle result }
+    {
+        self.tables.lent(handle)
+    }
+
+    /// Whether a handle names an unreleased view whose items lie one after the other and may be written. Takes no
+    /// memory.
+    /// Example: of a view of a bytearray it is true, and of one of `bytes` false.
+    pub fn lends_to_write(&self, handle: u64) -> bool
+        ensures { result ≡ lends_to_write self.now handle }
+    {
+        self.tables.lends_to_write(handle)
+    }
+
+    /// The bytes of such a view, lent to be written. What is written there takes the place of the bytes of the view, and
+    /// of no others; all views of these bytes see it. Takes no memory.
+    /// Example: after `new bytearray x616263`, `view h0` and `world.lent_mut(1)[0] = b'A'` the bytes are `b"Abc"`.
+    pub fn lent_mut(&mut self, handle: u64) -> &mut [u8]
+        requires { lends_to_write self.old handle ≡ true }
+        ensures* writes_back { sem 𝓛 (LendsView self.entry handle result) }
+        ensures value { result.now ≡ view_bytes self.old handle }
+    {
+        let (exporter, view) = self.tables.place_to_write(handle);
+        self.tables
+            .exporters
+            .nth_mut(exporter)
+            .contiguous_bytes_mut(view)
     }
 }
