@@ -14,6 +14,8 @@ SINGLE = {
     '&mut WorldHandle': 'proved_handle *',
     '&mut FormatHandle': 'proved_handle *',
     '&SliceWords': 'const pybuf_slice *',
+    '&mut LentToRead': 'proved_lent *',
+    '&mut LentToWrite': 'proved_lent_to_write *',
     '&mut usize': 'size_t *',
     '&mut u64': 'uint64_t *',
     '&mut u32': 'uint32_t *',
@@ -38,6 +40,7 @@ def parameters(text):
         if not part:
             continue
         name, kind = (word.strip() for word in part.split(':', 1))
+        kind = re.sub(r"<'\w+>|'\w+ ", '', kind)  # lifetimes are nothing in C
         if kind == 'Global':  # this argument takes no bytes, and C passes nothing for it
             continue
         if kind in SLICES:
@@ -48,7 +51,7 @@ def parameters(text):
 
 
 def declarations():
-    pattern = re.compile(r'pub extern "C" fn (\w+)\(([^)]*)\)( -> u32)?', re.S)
+    pattern = re.compile(r'pub extern "C" fn (\w+)(?:<[^>]*>)?\(([^)]*)\)( -> u32)?', re.S)
     for path in sorted((TOP / 'crates/pybuf_c/src').glob('*.rt')):
         for name, inner, result in pattern.findall(path.read_text()):
             yield f'{"uint32_t" if result else "void"} {name}({parameters(inner)});'
@@ -66,6 +69,17 @@ typedef struct {
     void *at;
     bool full;
 } proved_handle;
+
+/* Bytes that are lent to be read, and to be written. */
+typedef struct {
+    const uint8_t *at;
+    size_t length;
+} proved_lent;
+
+typedef struct {
+    uint8_t *at;
+    size_t length;
+} proved_lent_to_write;
 
 '''
     return head + '\n'.join(declarations()) + '\n\n#endif\n'

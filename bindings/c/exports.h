@@ -10,6 +10,7 @@ typedef struct {
     bool full;
 } proved_handle;
 
+/* Bytes that are lent to be read, and to be written. */
 typedef struct {
     const uint8_t *at;
     size_t length;
@@ -44,10 +45,10 @@ uint32_t pybuf_proved_format_pack(proved_handle *handle, uint8_t *room, size_t r
 uint32_t pybuf_proved_format_unpack(proved_handle *handle, const uint8_t *bytes, size_t bytes_length);
 uint32_t pybuf_proved_format_value(proved_handle *handle, size_t index, uint32_t *kind, uint64_t *magnitude, bool *negative);
 uint32_t pybuf_proved_format_value_bytes(proved_handle *handle, size_t index, uint8_t *room, size_t room_length, size_t *count);
+uint32_t pybuf_proved_lend(proved_handle *handle, uint64_t view, proved_lent *out);
+uint32_t pybuf_proved_lend_to_write(proved_handle *handle, uint64_t view, proved_lent_to_write *out);
 uint32_t pybuf_proved_new(proved_handle *handle, uint32_t kind, const uint8_t *bytes, size_t bytes_length);
 uint32_t pybuf_proved_view(proved_handle *handle, uint64_t subject);
-uint32_t pybuf_proved_lend(proved_handle *handle, uint64_t view, proved_lent *lent);
-uint32_t pybuf_proved_lend_to_write(proved_handle *handle, uint64_t view, proved_lent_to_write *lent);
 uint32_t pybuf_proved_to_readonly(proved_handle *handle, uint64_t subject);
 uint32_t pybuf_proved_to_contiguous(proved_handle *handle, uint64_t subject);
 uint32_t pybuf_proved_cast(proved_handle *handle, uint64_t subject, const uint8_t *format, size_t format_length);

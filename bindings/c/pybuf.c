@@ -378,6 +378,30 @@ CALL(copy, OF(pybuf_object array, pybuf_object *made), a_pointer(made), ASK(copy
 CALL(take, OF(pybuf_object vector, void *room, size_t room_length, size_t *length), a_room(room, room_length, length),
     ASK(take, vector), one_text(world, room, room_length, length))
 
+/* (the export tells the place itself) */
+static pybuf_status lend(proved_handle *handle, pybuf_object view, const uint8_t **at, size_t *length)
+{
+    proved_lent lent = {no_bytes, 0};
+    ASKS(pybuf_proved_lend(handle, view, &lent));
+    *at = lent.at;
+    *length = lent.length;
+    return PYBUF_OK;
+}
+
+static pybuf_status lend_to_write(proved_handle *handle, pybuf_object view, uint8_t **at, size_t *length)
+{
+    proved_lent_to_write lent = {no_bytes, 0};
+    ASKS(pybuf_proved_lend_to_write(handle, view, &lent));
+    *at = lent.at;
+    *length = lent.length;
+    return PYBUF_OK;
+}
+
+CALL(lend, OF(pybuf_object view, const uint8_t **at, size_t *length), both(a_pointer(at), a_pointer(length)),
+    lend(&world->handle, view, at, length), PYBUF_OK)
+CALL(lend_to_write, OF(pybuf_object view, uint8_t **at, size_t *length), both(a_pointer(at), a_pointer(length)),
+    lend_to_write(&world->handle, view, at, length), PYBUF_OK)
+
 /* (the export tells the number itself) */
 static pybuf_status get(proved_handle *handle, pybuf_object object, int64_t index, pybuf_number *item)
 {

@@ -210,6 +210,55 @@ static void causes(void)
     WANT(PYBUF_OK, pybuf_format_free(format));
 }
 
+/* What a view lends are its bytes where they lie, until it is released. */
+static void lending(pybuf_world *world)
+{
+    pybuf_object array, bytes, view, part, apart, empty;
+    const pybuf_slice tail = {1, 0, 0, true, false, false}, second = {0, 0, 2, false, false, true};
+    const uint8_t *at = NULL;
+    uint8_t *place = NULL;
+    size_t length = 7;
+    char room[4];
+    WANT(PYBUF_OK, pybuf_new(world, PYBUF_BYTEARRAY, "abcd", 4, &array));
+    WANT(PYBUF_OK, pybuf_view(world, array, &view));
+    WANT(PYBUF_NULL_POINTER, pybuf_lend(NULL, view, &at, &length));
+    WANT(PYBUF_NULL_POINTER, pybuf_lend(world, view, NULL, &length));
+    WANT(PYBUF_NULL_POINTER, pybuf_lend_to_write(world, view, &place, NULL));
+    WANT(PYBUF_NOTHING, pybuf_lend(world, array, &at, &length));
+    WANT(PYBUF_NOTHING, pybuf_lend_to_write(world, 1000000, &place, &length));
+    HOLDS(at == NULL && place == NULL && length == 7);
+    WANT(PYBUF_OK, pybuf_lend_to_write(world, view, &place, &length));
+    HOLDS(length == 4 && memcmp(place, "abcd", 4) == 0);
+    WANT(PYBUF_OK, pybuf_get_slice(world, view, &tail, &part));
+    WANT(PYBUF_OK, pybuf_lend(world, part, &at, &length));
+    HOLDS(length == 3 && at == place + 1);
+    place[1] = 'B';
+    WANT(PYBUF_OK, pybuf_bytes(world, part, room, sizeof room, &length));
+    HOLDS(length == 3 && memcmp(room, "Bcd", 3) == 0);
+    WANT(PYBUF_OK, pybuf_set(world, array, 2, pybuf_number_of('C')));
+    HOLDS(memcmp(at, "BCd", 3) == 0);
+    WANT(PYBUF_BUFFER_ERROR, pybuf_append(world, array, pybuf_number_of(1)));
+    WANT(PYBUF_OK, pybuf_get_slice(world, view, &second, &apart));
+    WANT(PYBUF_NOTHING, pybuf_lend(world, apart, &at, &length));
+    for (int i = 0; i < 100; i++)
+        WANT(PYBUF_OK, pybuf_new(world, PYBUF_BYTES, "more", 4, &bytes));
+    WANT(PYBUF_OK, pybuf_lend(world, view, &at, &length));
+    HOLDS(at == place && length == 4 && memcmp(at, "aBCd", 4) == 0);
+    WANT(PYBUF_OK, pybuf_release(world, apart));
+    WANT(PYBUF_OK, pybuf_release(world, part));
+    WANT(PYBUF_OK, pybuf_release(world, view));
+    WANT(PYBUF_NOTHING, pybuf_lend(world, view, &at, &length));
+    WANT(PYBUF_OK, pybuf_append(world, array, pybuf_number_of('e')));
+    WANT(PYBUF_OK, pybuf_view(world, bytes, &view));
+    WANT(PYBUF_OK, pybuf_lend(world, view, &at, &length));
+    HOLDS(length == 4 && memcmp(at, "more", 4) == 0);
+    WANT(PYBUF_NOTHING, pybuf_lend_to_write(world, view, &place, &length));
+    WANT(PYBUF_OK, pybuf_new(world, PYBUF_BYTEARRAY, NULL, 0, &empty));
+    WANT(PYBUF_OK, pybuf_view(world, empty, &view));
+    WANT(PYBUF_OK, pybuf_lend_to_write(world, view, &place, &length));
+    HOLDS(length == 0 && place != NULL);
+}
+
 static pybuf_format *parsed(const char *text)
 {
     pybuf_format *format = NULL;
@@ -370,6 +419,7 @@ int main(void)
     refusals(world);
     sizes(world);
     causes();
+    lending(world);
     format_pointers(world);
     format_rooms();
     threads();

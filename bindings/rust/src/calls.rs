@@ -85,6 +85,8 @@ extern "C" {
     pub fn pybuf_view(world: World, object: u64, view: *mut u64) -> i32;
     pub fn pybuf_to_readonly(world: World, view: u64, made: *mut u64) -> i32;
     pub fn pybuf_cast(world: World, view: u64, format: *const std::ffi::c_char, shape: *const i64, dimensions: usize, made: *mut u64) -> i32;
+    pub fn pybuf_lend(world: World, view: u64, at: *mut *const u8, length: *mut usize) -> i32;
+    pub fn pybuf_lend_to_write(world: World, view: u64, at: *mut *mut u8, length: *mut usize) -> i32;
     pub fn pybuf_release(world: World, view: u64) -> i32;
     pub fn pybuf_get(world: World, object: u64, index: i64, item: *mut Number) -> i32;
     pub fn pybuf_get_at(world: World, view: u64, indices: *const i64, count: usize, item: *mut Number) -> i32;

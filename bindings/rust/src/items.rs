@@ -22,6 +22,10 @@ pub trait Item: Copy + Debug + PartialEq + sealed::Sealed + 'static {
     /// ```
     const CODE: &'static str;
 
+    /// Whether any bytes, as many as it takes and as they lie, are an item.
+    #[doc(hidden)]
+    const LIES: bool = false;
+
     /// The item that the library reads as this number.
     #[doc(hidden)]
     fn of(number: i128) -> Self;
@@ -144,6 +148,7 @@ macro_rules! numbers {
 
         impl Item for $number {
             const CODE: &'static str = $code;
+            const LIES: bool = true;
 
             fn of(number: i128) -> $number {
                 number as $number

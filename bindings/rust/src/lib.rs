@@ -27,8 +27,8 @@
 //! bytes are cells. No view may be sent to another thread. A [`World`] and a [`Format`] may: that of C is proved to be `Send`. A [`ByteArray`]
 //! or [`Bytes`] may once it is [detached](ByteArray::detach), when it has no view.
 //!
-//! A view reads and writes the bytes where they lie, a call for each item. The library doesn't lend an address, so there is no `Deref` to a
-//! slice: [`View::to_bytes`] copies. What released views leave in the library is given back once no view of their array is there.
+//! A view reads and writes the bytes where they lie: a call for each item, or all of them as a slice ([`View::as_slice`],
+//! [`ViewMut::as_mut_slice`]). What released views leave in the library is given back once no view of their array is there.
 //!
 //! # From `rustpython-vm` 0.4.0
 //!
@@ -36,14 +36,15 @@
 //! |---|---|
 //! | `PyBytes`, `PyByteArray`, `PyBytesInner`; `new_ref` | [`Bytes`], [`ByteArray`]; [`Bytes::new`], [`ByteArray::new`] |
 //! | `PyBytes::{len, is_empty}`, `PyBytesInner::{contains, cmp, hash}` | [`Bytes::len`], [`Bytes::is_empty`], [`Bytes::contains`], `Ord`, `Hash` |
-//! | `PyBytes::as_bytes`, `PyByteArray::borrow_buf` | [`Bytes::to_bytes`], [`ByteArray::to_bytes`]: copies |
+//! | `PyBytes::as_bytes`, `PyByteArray::borrow_buf` | [`View::as_slice`]; [`Bytes::to_bytes`], [`ByteArray::to_bytes`]: copies |
 //! | `PyByteArray::borrow_buf_mut` | [`ByteArray::as_view_mut`], and the calls of [`ByteArray`] that edit |
 //! | `PyByteArray::delitem`, `SequenceMutExt::imul` | [`ByteArray::delete`], [`ByteArray::repeat`] |
 //! | `PyBytesInner::{find, split, hex, ..}`, `AnyStr` | none: [`World::run`] has them as lines |
 //! | `PyBuffer`, `ArgBytesLike`; `ArgMemoryBuffer` | [`View`]; [`ViewMut`] |
 //! | `PyBuffer::{retain, release}` | `clone`, `drop` |
 //! | `PyBuffer::{append_to, contiguous_or_collect}`, `ArgBytesLike::with_ref` | [`View::to_bytes`] |
-//! | `PyBuffer::{as_contiguous, obj_bytes}`, their `_mut`, `BufferDescriptor::{for_each_segment, zip_eq}` | none: no address is lent |
+//! | `PyBuffer::{as_contiguous, obj_bytes}`, their `_mut` | [`View::as_slice`], [`ViewMut::as_mut_slice`] |
+//! | `BufferDescriptor::{for_each_segment, zip_eq}` | none: [`View::get_at`] |
 //! | `PyBuffer::from_byte_vector`, `VecBuffer` | [`Bytes::new`], then [`Bytes::as_view`] |
 //! | `BufferDescriptor::{ndim, is_contiguous, position}`, `dim_desc` | [`View::shape`], [`View::is_contiguous`], [`View::get_at`], [`View::strides`] |
 //! | `BufferMethods`, `BufferDescriptor::{simple, format, validate}` | none: the library exports its own bytes |

@@ -1,6 +1,7 @@
 //! Bytearrays and views of them.
 use crate::calls::{self, copied, done, Number};
 use crate::error::{Error, Result};
+use crate::items::Item;
 use crate::slices::Slice;
 use crate::views::{View, ViewCell, ViewMut};
 use crate::world::World;
@@ -11,6 +12,8 @@ use std::fmt;
 use std::hash::{Hash, Hasher};
 use std::io;
 use std::marker::PhantomData;
+use std::mem::{align_of, size_of};
+use std::ptr;
 use std::rc::Rc;
 
 // A world is worn after so many views, and so many more for each of so many bytes, which a new one has to copy.
@@ -89,6 +92,22 @@ impl Object {
         done(unsafe {
             calls::pybuf_set_slice(self.world.pointer(), self.number, &words, bytes.as_ptr(), bytes.len())
         })
+    }
+
+    /// The items of a view where they lie, as a pointer and their number, if they lie one after the other, at a place for them.
+    pub(crate) fn lent<T: Item>(&self) -> Option<(*const T, usize)> {
+        let (mut at, mut length) = (ptr::null(), 0);
+        done(unsafe { calls::pybuf_lend(self.world.pointer(), self.number, &mut at, &mut length) }).ok()?;
+        let at = at.cast::<T>();
+        (T::LIES && at as usize % align_of::<T>() == 0).then(|| (at, length / size_of::<T>()))
+    }
+
+    /// Likewise, if they may be written.
+    pub(crate) fn lent_to_write<T: Item>(&self) -> Option<(*mut T, usize)> {
+        let (mut at, mut length) = (ptr::null_mut(), 0);
+        done(unsafe { calls::pybuf_lend_to_write(self.world.pointer(), self.number, &mut at, &mut length) }).ok()?;
+        let at = at.cast::<T>();
+        (T::LIES && at as usize % align_of::<T>() == 0).then(|| (at, length / size_of::<T>()))
     }
 
     pub(crate) fn view(&self) -> Result<MemoryView> {

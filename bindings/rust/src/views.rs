@@ -8,6 +8,7 @@ use std::fmt;
 use std::hash::{Hash, Hasher};
 use std::io::{self, BufRead, Read, Write};
 use std::marker::PhantomData;
+use std::slice;
 
 /// A view under which no byte changes, as a `&[T]` has it. It borrows what it sees until it is dropped.
 ///
@@ -349,6 +350,22 @@ impl<'a, T: Item> View<'a, T> {
         self.seen.object.world.add_reader();
         self
     }
+
+    /// The items where they lie, without a copy. It is `None` if they don't lie one after the other, at a place for them, and for items that
+    /// aren't whole numbers as this machine has them: for [`Le`](crate::Le), [`Be`](crate::Be) and `bool`.
+    ///
+    /// ```
+    /// let array = pybuf::ByteArray::new(b"abcd")?;
+    /// let view = array.as_view()?;
+    /// assert_eq!(view.as_slice(), Some(&b"abcd"[..]));
+    /// assert_eq!(view.slice(pybuf::slice!(..; 2))?.as_slice(), None);
+    /// # Ok::<(), pybuf::Error>(())
+    /// ```
+    pub fn as_slice(&self) -> Option<&[T]> {
+        let (at, count) = self.seen.object.lent()?;
+        // SAFETY: the items lie there until the view is released, and while it is there no byte changes.
+        Some(unsafe { slice::from_raw_parts(at, count) })
+    }
 }
 
 impl<'a> View<'a> {
@@ -388,6 +405,34 @@ impl<'a, T: Item> ViewMut<'a, T> {
 
     fn counted(self) -> Self {
         self
+    }
+
+    /// The items where they lie, as [`View::as_slice`] has them.
+    ///
+    /// ```
+    /// # let mut array = pybuf::ByteArray::new(b"abcd")?;
+    /// assert_eq!(array.as_view_mut()?.as_slice(), Some(&b"abcd"[..]));
+    /// # Ok::<(), pybuf::Error>(())
+    /// ```
+    pub fn as_slice(&self) -> Option<&[T]> {
+        let (at, count) = self.seen.object.lent()?;
+        // SAFETY: the items lie there until the view is released, and nothing else writes them.
+        Some(unsafe { slice::from_raw_parts(at, count) })
+    }
+
+    /// The items where they lie, to be written, as [`View::as_slice`] has them.
+    ///
+    /// ```
+    /// # let mut array = pybuf::ByteArray::new(b"abcd")?;
+    /// let mut view = array.as_view_mut()?;
+    /// view.as_mut_slice().unwrap()[1..3].copy_from_slice(b"BC");
+    /// assert_eq!(view, *b"aBCd");
+    /// # Ok::<(), pybuf::Error>(())
+    /// ```
+    pub fn as_mut_slice(&mut self) -> Option<&mut [T]> {
+        let (at, count) = self.seen.object.lent_to_write()?;
+        // SAFETY: the items lie there until the view is released, and nothing else reads or writes them.
+        Some(unsafe { slice::from_raw_parts_mut(at, count) })
     }
 
     /// Writes the item at an index.

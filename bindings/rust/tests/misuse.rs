@@ -28,7 +28,7 @@ fn misuse_is_refused_by_the_compiler() {
     let folder = Path::new(env!("CARGO_MANIFEST_DIR")).join("tests/misuse");
     let files: Vec<_> = fs::read_dir(folder).unwrap().map(read).collect();
     let text = told(&Path::new(env!("CARGO_TARGET_TMPDIR")).join("misuse"), &files);
-    assert!(files.len() >= 14, "files are missing");
+    assert!(files.len() >= 15, "files are missing");
     for (name, file) in &files {
         let wanted = file.split_whitespace().nth(1).unwrap();
         let head = format!("src/bin/{name}:");

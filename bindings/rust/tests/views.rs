@@ -239,3 +239,25 @@ fn records_are_tuples() {
     let format = Format::new("<BbHhIiQq?sBB").unwrap();
     assert_eq!(format.unpack_as(&pack("<BbHhIiQq?sBB", &twelve).unwrap()), Ok(twelve));
 }
+
+#[test]
+fn slices_are_the_items_where_they_lie() {
+    let mut array = ByteArray::new(&[0; 16]).unwrap();
+    {
+        let mut view = array.as_view_mut().unwrap().cast::<u32>().unwrap();
+        if let Some(items) = view.as_mut_slice() {
+            items[1] = u32::from_ne_bytes(*b"abcd");
+        }
+        assert_eq!(view.as_slice().map(<[u32]>::len), Some(4));
+    }
+    assert_eq!(array.slice(4..8).unwrap(), b"abcd");
+    let view = array.as_view().unwrap();
+    assert_eq!(view.slice(4..8).unwrap().as_slice(), Some(&b"abcd"[..]));
+    assert_eq!(view.slice(pybuf::slice!(..; -1)).unwrap().as_slice(), None);
+    // numbers of four bytes from an odd place on
+    assert_eq!(view.slice(1..5).unwrap().cast::<u32>().unwrap().as_slice(), None);
+    assert_eq!(view.cast::<pybuf::Le<u32>>().unwrap().as_slice(), None);
+    assert_eq!(array.set(0, 1), Err(Error::Buffer));
+    drop(view);
+    array.set(0, 1).unwrap();
+}
