@@ -415,30 +415,6 @@ CALL(get, OF(pybuf_object object, int64_t index, pybuf_number *item), a_pointer(
 CALL(last_bytes, OF(void *room, size_t room_length, size_t *length), a_room(room, room_length, length),
     one_text(world, room, room_length, length), PYBUF_OK)
 
-/* (the export tells the place itself) */
-static pybuf_status lend(proved_handle *handle, pybuf_object view, const uint8_t **at, size_t *length)
-{
-    proved_lent lent = {no_bytes, 0};
-    ASKS(pybuf_proved_lend(handle, view, &lent));
-    *at = lent.at;
-    *length = lent.length;
-    return PYBUF_OK;
-}
-
-static pybuf_status lend_to_write(proved_handle *handle, pybuf_object view, uint8_t **at, size_t *length)
-{
-    proved_lent_to_write lent = {no_bytes, 0};
-    ASKS(pybuf_proved_lend_to_write(handle, view, &lent));
-    *at = lent.at;
-    *length = lent.length;
-    return PYBUF_OK;
-}
-
-CALL(lend, OF(pybuf_object view, const uint8_t **at, size_t *length), both(a_pointer(at), a_pointer(length)),
-    lend(&world->handle, view, at, length), PYBUF_OK)
-CALL(lend_to_write, OF(pybuf_object view, uint8_t **at, size_t *length), both(a_pointer(at), a_pointer(length)),
-    lend_to_write(&world->handle, view, at, length), PYBUF_OK)
-
 /* ---- formats ---- */
 
 pybuf_status pybuf_format_parse(const char *text, size_t length, pybuf_format **format)
