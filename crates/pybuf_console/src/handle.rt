@@ -1,5 +1,5 @@
 //! The handle by which a program in C holds a world.
-ghost use Rattle.std.specs.Prelude.{◌≡◌, Some, None, MatchOption};
+ghost use Rattle.std.specs.Prelude.{◌≡◌, true, Some, None, MatchOption};
 
 use crate::address::ConsoleAddress;
 use crate::console::Console;
