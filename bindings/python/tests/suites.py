@@ -30,7 +30,7 @@ BY_NAME = 'the test starts an interpreter in which our class has no name'
 
 DIFFERENCES = {
     'ArrayTests.test_check_encoding_errors': BY_NAME,
-    'ArrayTests.test_ord': NO_BUFFER,
+    'ArrayTests.test_ord': '`ord` takes objects of Python\'s own types alone',
     'ArrayMemoryviewTest.test_array_assign': COPIED,
     'OtherTest.test_ctypes_cast': COPIED,
     'StructTest.test__sizeof__': IN_PYTHON,
