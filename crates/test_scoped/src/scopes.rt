@@ -137,7 +137,7 @@ fn tell_contents(alloc: Global, array: &mut PyByteArray, told: &mut Vec<u8>) -> 
     tell_number(alloc, told, view.count(alloc, b"l")?)?;
     told.extend_from_slice(view.replace(alloc, b"l", b"LL", 2)?.as_slice())?;
     told.extend_from_slice(view.strip(Some(b" "))?)?;
-    told.extend_from_slice(view.hex(alloc, Some(b":"), -4)?.as_bytes())?;
+    told.extend_from_slice(view.hex(alloc, Some(b":"), -4)?.as_slice())?;
     let parts = view.split(alloc, None, -1)?;
     tell_number(alloc, told, parts.len())?;
     tell(alloc, told, view.split(alloc, Some(b""), -1).err())?;
