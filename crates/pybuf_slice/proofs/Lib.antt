@@ -4,5 +4,3 @@ pub mod EditLemmas
 pub mod PartedLemmas
 pub mod LengthLemmas
 pub mod SetLemmas
-pub mod FrontLemmas
-pub mod RoomLemmas

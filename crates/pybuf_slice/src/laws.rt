@@ -1,7 +1,6 @@
 //! What holds of reads and edits by slices.
-ghost use Rattle.std.specs.Prelude.{ℕ, ℤ, List, Option};
+ghost use Rattle.std.specs.Prelude.{ℤ, List, Option};
 ghost use Rattle.pybuf_index.specs.Parts.{SliceParts};
-ghost use Rattle.pybuf_slice.specs.FrontContent.{FrontContent, AddingIsPaidByRoom};
 ghost use Rattle.pybuf_slice.specs.EditLaws.{SlicePartsList, AsManyKeepTheLength, AsManyAreReadBack, AnyNumberTakesThePlace};
 
 use pybuf_index::{indices_of_a_slice, indices_of_a_span, slices_have_spans};
@@ -49,12 +48,3 @@ pub fn any_number_takes_the_place<T>()
     indices_of_a_span();
     slices_have_spans();
 }
-
-/// Adding bytes behind free room is paid by the room: each byte that is moved to the start uses up a byte of
-/// room, and each moves at most once. Afterwards there is no room, or less than there are bytes. So a queue that
-/// only takes from the front and adds at the end moves at most as many bytes as were taken.
-///
-/// Example: four bytes behind a room of six move once and leave no room, and four behind a room of three stay.
-pub fn adding_is_paid_by_room()
-    ensures { (f : FrontContent) (added : List ℕ) → AddingIsPaidByRoom f added }
-{}

@@ -4,7 +4,6 @@
 
 mod edit_ops;
 mod edits;
-mod front;
 mod laws;
 mod repeats;
 mod sequence;
@@ -12,10 +11,9 @@ pub mod slices;
 
 pub use edit_ops::{SequenceExt, SequenceMutExt, SliceableSequenceMutOp};
 pub use edits::close_up;
-pub use front::FrontBytes;
 pub use laws::{
-    adding_is_paid_by_room, any_number_takes_the_place, as_many_are_read_back,
-    as_many_keep_the_length, reading_and_deleting_part_a_list,
+    any_number_takes_the_place, as_many_are_read_back, as_many_keep_the_length,
+    reading_and_deleting_part_a_list,
 };
 pub use pybuf_index::{
     OptionalRangeArgs, SaturatedSlice, SaturatedSliceIter, SequenceIndex, SequenceIndexOp,
