@@ -56,6 +56,9 @@ def calls():
 def ends(call, objects):
     try:
         call(*objects)
+    except SystemError as fault:
+        # CPython 3.11 loses a MemoryError where there is no memory for its traceback; calls of its own bytearray end so too
+        return MemoryError if 'without' in str(fault) and 'exception' in str(fault) else SystemError
     except Exception as fault:
         return type(fault)
     return None
