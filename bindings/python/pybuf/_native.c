@@ -522,6 +522,33 @@ static PyObject *bytes_of(pybuf_world *world, pybuf_object object, size_t length
     return refuse(messages, "bytes", status);
 }
 
+/* From so many bytes on a copy is made of what a view lends, which costs a view, but one copy in place of several. */
+enum { MANY = 4096 };
+
+/* NULL without an exception: nothing was lent. */
+static PyObject *array_many_bytes(Array *own, size_t length)
+{
+    const uint8_t *at;
+    pybuf_object view;
+    PyObject *made = PyBytes_FromStringAndSize(NULL, (Py_ssize_t)length);
+    if (!made)
+        return NULL;
+    renew(own->shared);
+    pybuf_world *world = own->shared->world;
+    bool lent = !lib.view(world, own->shared->root, &view);
+    if (lent) {
+        own->shared->last = view;
+        size_t there;
+        lent = !lib.lend(world, view, &at, &there) && there == length;
+        if (lent)
+            memcpy(PyBytes_AsString(made), at, length);
+        lib.release(world, view);
+    }
+    if (!lent)
+        Py_CLEAR(made);
+    return made;
+}
+
 static PyObject *array_bytes(PyObject *self, PyObject *none)
 {
     (void)none;
@@ -531,6 +558,11 @@ static PyObject *array_bytes(PyObject *self, PyObject *none)
     if (!world)
         return NULL;
     pybuf_status status = lib.length(world, own->shared->root, &length);
+    if (!status && length >= MANY) {
+        PyObject *made = array_many_bytes(own, length);
+        if (made || PyErr_Occurred())
+            return made;
+    }
     return status ? refuse(of_arrays, "length", status) : bytes_of(world, own->shared->root, length, of_arrays);
 }
 
