@@ -3,11 +3,6 @@
 #ifndef PYBUF_LENDING_H
 #define PYBUF_LENDING_H
 
-#ifndef PYBUF_LENDS
-#define BUFFER(get)
-#else
-#define BUFFER(get) SLOT(Py_bf_getbuffer, get), SLOT(Py_bf_releasebuffer, buffer_back),
-
 /* A buffer that is out. */
 typedef struct {
     Shared *shared;
@@ -23,6 +18,7 @@ static void loan_ends(Loan *loan)
 {
     lib.release(loan->shared->world, loan->view);
     loan->shared->unmoved--;
+    buffers_out--;
     shared_drop(loan->shared);
     PyMem_Free(loan);
 }
@@ -46,12 +42,15 @@ static Loan *loan_made(Shared *shared, pybuf_object object, bool fixed, size_t d
     loan->shared = shared;
     shared->count++;
     shared->unmoved++;
+    buffers_out++;
     const uint8_t *read = NULL;
     uint8_t *written = NULL;
     status = fixed ? lib.lend(shared->world, loan->view, &read, length) : lib.lend_to_write(shared->world, loan->view, &written, length);
     if (status) {
         loan_ends(loan);
-        PyErr_SetString(status == PYBUF_NO_MEMORY ? PyExc_MemoryError : PyExc_BufferError, "the items don't lie together, so they aren't lent");
+        refuse(of_none, "lend", status);
+        if (status == PYBUF_NOTHING)
+            PyErr_SetString(PyExc_BufferError, "the items don't lie together, so they aren't lent");
         return NULL;
     }
     /* Python's buffers have one kind of pointer, whether they are written or not */
@@ -153,5 +152,4 @@ static void buffer_back(PyObject *self, Py_buffer *buffer)
     loan_ends(buffer->internal);
 }
 
-#endif
 #endif

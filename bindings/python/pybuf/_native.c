@@ -22,14 +22,8 @@
     X(get_at) X(get_slice) X(get_slice_bytes) X(set) X(set_at) X(set_slice) X(set_slice_of) X(length) X(bytes) X(items) X(property_number) \
     X(property_numbers) X(property_text) X(compare) X(compare_with) X(contains) X(contains_byte) X(append) X(extend) X(extend_by) X(insert) \
     X(pop) X(pop_last) X(remove) X(clear) X(reverse) X(delete) X(delete_slice) X(repeat) X(take) X(last_bytes) X(format_parse) X(format_free) \
-    X(format_size) X(format_count) X(format_pack) X(format_unpack) X(format_value_bytes) LENDING(X)
-
-/* The header says whether the library lends the bytes of views. */
-#ifdef PYBUF_LENDS
-#define LENDING(X) X(lend) X(lend_to_write)
-#else
-#define LENDING(X)
-#endif
+    X(format_size) X(format_count) X(format_pack) X(format_unpack) X(format_value_bytes) \
+    X(lend) X(lend_to_write)
 
 typedef struct {
 #define X(name) __typeof__(pybuf_##name) *name;
@@ -528,6 +522,33 @@ static PyObject *bytes_of(pybuf_world *world, pybuf_object object, size_t length
     return refuse(messages, "bytes", status);
 }
 
+/* From so many bytes on a copy is made of what a view lends, which costs a view, but one copy in place of several. */
+enum { MANY = 4096 };
+
+/* NULL without an exception: nothing was lent. */
+static PyObject *array_many_bytes(Array *own, size_t length)
+{
+    const uint8_t *at;
+    pybuf_object view;
+    PyObject *made = PyBytes_FromStringAndSize(NULL, (Py_ssize_t)length);
+    if (!made)
+        return NULL;
+    renew(own->shared);
+    pybuf_world *world = own->shared->world;
+    bool lent = !lib.view(world, own->shared->root, &view);
+    if (lent) {
+        own->shared->last = view;
+        size_t there;
+        lent = !lib.lend(world, view, &at, &there) && there == length;
+        if (lent)
+            memcpy(PyBytes_AsString(made), at, length);
+        lib.release(world, view);
+    }
+    if (!lent)
+        Py_CLEAR(made);
+    return made;
+}
+
 static PyObject *array_bytes(PyObject *self, PyObject *none)
 {
     (void)none;
@@ -537,6 +558,11 @@ static PyObject *array_bytes(PyObject *self, PyObject *none)
     if (!world)
         return NULL;
     pybuf_status status = lib.length(world, own->shared->root, &length);
+    if (!status && length >= MANY) {
+        PyObject *made = array_many_bytes(own, length);
+        if (made || PyErr_Occurred())
+            return made;
+    }
     return status ? refuse(of_arrays, "length", status) : bytes_of(world, own->shared->root, length, of_arrays);
 }
 
@@ -570,6 +596,10 @@ typedef struct {
     PyObject *kept;
 } Lent;
 
+/* How many buffers of our objects are out. While one is, a buffer of another object may have its bytes, which a call on their world mustn't be
+ * passed. So a call is passed copies then. */
+static size_t buffers_out;
+
 /* Lends the bytes of an object that has a buffer, or of one of ours. If they are to be whole, items that lie apart are BufferError. */
 static int lend(PyObject *value, Lent *lent, int whole)
 {
@@ -588,9 +618,13 @@ static int lend(PyObject *value, Lent *lent, int whole)
         else
             PyErr_SetString(PyExc_BufferError, "memoryview: underlying buffer is not C-contiguous");
     } else if (PyObject_GetBuffer(value, &lent->buffer, PyBUF_SIMPLE) == 0) {
-        lent->bytes = lent->buffer.buf;
-        lent->length = (size_t)lent->buffer.len;
-        return 1;
+        if (!buffers_out) {
+            lent->bytes = lent->buffer.buf;
+            lent->length = (size_t)lent->buffer.len;
+            return 1;
+        }
+        lent->kept = PyBytes_FromStringAndSize(lent->buffer.buf, lent->buffer.len);
+        PyBuffer_Release(&lent->buffer);
     } else if (!whole && PyErr_ExceptionMatches(PyExc_BufferError)) {
         PyErr_Clear();
         PyObject *view = PyMemoryView_FromObject(value);
@@ -1452,7 +1486,7 @@ static PyType_Slot items_slots[] = {{Py_tp_doc, "The items of an array, by their
 static PyType_Spec items_spec = {"pybuf._native.Items", sizeof(Items), 0, Py_TPFLAGS_DEFAULT | Py_TPFLAGS_HAVE_GC, items_slots};
 
 static PyType_Slot array_slots[] = {{Py_tp_doc, "ByteArray(source=b'', encoding=None, errors=None)\n--\n\n"
-                                                "A bytearray, by the library. It behaves as Python's own, but has no buffer for C code."},
+                                                "A bytearray, by the library. It behaves as Python's own."},
                                     SLOT(Py_tp_new, array_made),
                                     SLOT(Py_tp_init, array_init),
                                     SLOT(Py_tp_dealloc, array_dealloc),
@@ -1470,7 +1504,9 @@ static PyType_Slot array_slots[] = {{Py_tp_doc, "ByteArray(source=b'', encoding=
                                     SLOT(Py_nb_inplace_add, array_add_in_place),
                                     SLOT(Py_mp_subscript, array_subscript),
                                     SLOT(Py_mp_ass_subscript, array_ass_subscript),
-                                    BUFFER(array_buffer){0, 0}};
+                                    SLOT(Py_bf_getbuffer, array_buffer),
+                                    SLOT(Py_bf_releasebuffer, buffer_back),
+                                    {0, 0}};
 static PyType_Spec array_spec = {"pybuf.ByteArray", sizeof(Array), 0, Py_TPFLAGS_DEFAULT | Py_TPFLAGS_BASETYPE, array_slots};
 
 #include "_views.h"

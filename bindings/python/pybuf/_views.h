@@ -780,7 +780,6 @@ static PyObject *view_get_format(PyObject *self, void *none)
     return made;
 }
 
-#ifdef PYBUF_LENDS
 /* The format as bytes. */
 static PyObject *view_bytes_shown(View *own)
 {
@@ -788,7 +787,6 @@ static PyObject *view_bytes_shown(View *own)
     Py_XDECREF(text);
     return bytes;
 }
-#endif
 
 static PyObject *view_get_obj(PyObject *self, void *none)
 {
@@ -896,7 +894,9 @@ static PyType_Slot view_slots[] = {{Py_tp_doc, "MemoryView(object)\n--\n\n"
                                    SLOT(Py_sq_item, view_item),
                                    SLOT(Py_mp_subscript, view_subscript),
                                    SLOT(Py_mp_ass_subscript, view_ass_subscript),
-                                   BUFFER(view_buffer){0, 0}};
+                                   SLOT(Py_bf_getbuffer, view_buffer),
+                                   SLOT(Py_bf_releasebuffer, buffer_back),
+                                   {0, 0}};
 static PyType_Spec view_spec = {"pybuf.MemoryView", sizeof(View), 0, Py_TPFLAGS_DEFAULT | Py_TPFLAGS_BASETYPE | Py_TPFLAGS_HAVE_GC, view_slots};
 
 #endif
