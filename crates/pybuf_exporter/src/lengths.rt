@@ -259,10 +259,7 @@ impl ExporterState {
     ///
     /// Refused with `BufferError` exactly where a view is unreleased. Nothing is changed then, and nothing is counted.
     /// Example: of `b"cd"` behind a room of two bytes it moves two bytes, and of `b"cd"` without room none.
-    pub fn take_bytes_counted<L: Ledger>(
-        &mut self,
-        moved: &mut Steps<L>,
-    ) -> Result<Vec<u8>, Fault>
+    pub fn take_bytes_counted<L: Ledger>(&mut self, moved: &mut Steps<L>) -> Result<Vec<u8>, Fault>
         requires { holds_readonly self.old.exporter.kind ≡ false }
         ensures answer { spec.TakesAll self.old result self.new }
         ensures still { self.old.room ≡ 0 → moved.new ≡ moved.old }

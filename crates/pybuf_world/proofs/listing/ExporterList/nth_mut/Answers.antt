@@ -6,8 +6,7 @@ use Rattle.pybuf_world.proofs.listing.ExporterList.nth_mut.Goals as goal
 pub returns : goal.returns
 returns c =
     let ss = c.self.inside.exporters.items in
-    let below = subst (λ (es : List Exporter). c.args.number < length es) (sym c.self.view_is) c.requires in
-    (
+    let below = subst (λ (es : List Exporter). c.args.number < length es) (sym c.self.view_is) c.requires in (
       (refl, λ w. put_at ss c.args.number w ∙ ap (λ (es : List Exporter). set es c.args.number w.exporter) c.self.view_is),
       record {
         writes_back = tt;
