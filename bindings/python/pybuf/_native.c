@@ -582,6 +582,14 @@ static int view_number(View *view, pybuf_property property, uint64_t *number)
 static PyObject *view_bytes(View *own)
 {
     uint64_t length;
+    const uint8_t *at;
+    size_t there;
+    pybuf_world *world = world_of_view(own);
+    if (!world)
+        return NULL;
+    /* items that lie together are copied from where they lie */
+    if (!lib.lend(world, own->object, &at, &there))
+        return PyBytes_FromStringAndSize((const char *)at, (Py_ssize_t)there);
     if (!view_number(own, PYBUF_NBYTES, &length))
         return NULL;
     return bytes_of(own->shared->world, own->object, (size_t)length, of_views);
